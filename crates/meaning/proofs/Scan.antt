@@ -1,0 +1,68 @@
+-- Laws of `first`: how far a search has come, for a loop's invariant.
+use mathlib.Core.Path.{_≡_, refl, ap, sym, _∙_}
+use mathlib.Core.Bool.{Bool, true, false, not}
+use Prim.Native.Nat.{ℕ, zero, suc, _+_, _-_, _≤_, _<_}
+use native.Mathlib.Nat.{sub-zero}
+use native.Mathlib.Numerals.{add-one}
+use native.Mathlib.Decide.{decLe}
+use native.Mathlib.Omega.{arith}
+use Rattle.meaning.specs.Octets.{pick, scan, first, every}
+
+-- the places below i failed, so the search of n places is that of those from i on
+pub record Passed {A : Type 0} (p : ℕ → Bool) (hit : ℕ → A) (none : A) (n i : ℕ) : Type 0 where
+  pub within : i ≤ n
+  pub same : first p hit none n ≡ scan p hit none (n - i) i
+
+step : {A : Type 0} (p : ℕ → Bool) (hit : ℕ → A) (none : A) (n i : ℕ) → i < n
+    → scan p hit none (n - i) i ≡ pick (p i) (hit i) (scan p hit none (n - (i + 1)) (i + 1))
+step p hit none n i h = let e : n - i ≡ suc (n - (i + 1)) = omega arith in rw (e, add-one)
+
+module _ {A : Type 0} {p : ℕ → Bool} {hit : ℕ → A} {none : A} {n : ℕ} where
+  pub passed-none : Passed p hit none n 0
+  passed-none = record { within = omega arith; same = rw sub-zero }
+
+  pub passed-more : {i : ℕ} → Passed p hit none n i → i < n → p i ≡ false → Passed p hit none n (i + 1)
+  passed-more {i} w h e = record { within = omega arith; same = w .same ∙ step p hit none n i h ∙ rw e }
+
+  pub passed-hit : {i : ℕ} → Passed p hit none n i → i < n → p i ≡ true → first p hit none n ≡ hit i
+  passed-hit {i} w h e = w .same ∙ step p hit none n i h ∙ rw e
+
+  pub passed-end : {i : ℕ} → Passed p hit none n i → n ≤ i → first p hit none n ≡ none
+  passed-end {i} w h = let e : n - i ≡ 0 = omega arith in w .same ∙ rw e
+
+-- the same, the way round that a return asks
+pub is-hit : {A : Type 0} (p : ℕ → Bool) (hit : ℕ → A) (none : A) (n i : ℕ) → Passed p hit none n i → i < n → p i ≡ true → hit i ≡ first p hit none n
+is-hit p hit none n i w h e = sym (passed-hit w h e)
+
+pub is-none : {A : Type 0} (p : ℕ → Bool) (hit : ℕ → A) (none : A) (n i : ℕ) → Passed p hit none n i → n ≤ i → none ≡ first p hit none n
+is-none p hit none n i w h = sym (passed-end w h)
+
+-- what holds of either side, where the test picks it, holds of the pick
+pub pick-all : {A : Type 0} (P : A → Type 0) (t : Bool) (x y : A) → (t ≡ true → P x) → (t ≡ false → P y) → P (pick t x y)
+pick-all P true x y h k = h refl
+pick-all P false x y h k = k refl
+
+-- what holds of each hit below n, and of none, holds of the answer
+scan-all : {A : Type 0} (P : A → Type 0) (p : ℕ → Bool) (hit : ℕ → A) (none : A) (n i : ℕ)
+    → ((k : ℕ) → k < i + n → p k ≡ true → P (hit k)) → P none → P (scan p hit none n i)
+scan-all P p hit none zero i h z = z
+scan-all P p hit none (suc n) i h z =
+    pick-all P (p i) _ _ (λ e. h i (omega arith) e) (λ e. scan-all P p hit none n (suc i) (λ k l. h k (omega arith)) z)
+
+pub first-all : {A : Type 0} (P : A → Type 0) (p : ℕ → Bool) (hit : ℕ → A) (none : A) (n : ℕ)
+    → ((k : ℕ) → k < n → p k ≡ true → P (hit k)) → P none → P (first p hit none n)
+first-all P p hit none n h z = scan-all P p hit none n 0 (λ k l. h k (omega arith)) z
+
+-- ---- every
+all-from : (p : ℕ → Bool) (m i : ℕ) → scan (λ j. not (p j)) (λ j. false) true m i ≡ true → (k : ℕ) → k < i + m → i ≤ k → p k ≡ true
+all-from p zero i e k a b = absurd (omega arith)
+all-from p (suc m) i e k a b =
+    here (p i) refl (decLe k i) (λ q l. all-from p m (suc i) (rw q at e) k (omega arith) l)
+  where
+    here : (t : Bool) → p i ≡ t → Dec (k ≤ i) → (p i ≡ true → suc i ≤ k → p k ≡ true) → p k ≡ true
+    here true q (yes z) f = let y : k ≡ i = omega arith in ap p y ∙ q
+    here true q (no z) f = f q (omega arith)
+    here false q d f = absurd (let z : false ≡ true = rw q at e in let y : _≡_ {A = ℕ} 0 1 = cc in omega arith)
+
+pub every-at : (p : ℕ → Bool) (n : ℕ) → every p n ≡ true → (k : ℕ) → k < n → p k ≡ true
+every-at p n h k l = all-from p n 0 h k (omega arith) (omega arith)

@@ -1,0 +1,11 @@
+pub mod Octets
+pub mod Status
+pub mod Frame
+pub mod Fcs
+pub mod Site
+pub mod Filter
+pub mod Steps
+pub mod Field
+pub mod Sbox
+pub mod Cipher
+pub mod Ccm
