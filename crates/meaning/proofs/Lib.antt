@@ -1,3 +1,5 @@
 pub mod Tests
 pub mod Scan
 pub mod Lists
+pub mod Frame
+pub mod Order
