@@ -5,3 +5,5 @@ pub mod Tabs
 pub mod Stores
 pub mod Same
 pub mod Numbers
+pub mod Frame
+pub mod Order

@@ -9,3 +9,5 @@ pub mod Field
 pub mod Sbox
 pub mod Cipher
 pub mod Ccm
+pub mod Receive
+pub mod Build

@@ -85,8 +85,8 @@ pub struct Received {
 pub struct Request {
     pub kind: u8,
     pub version: u8,
-    pub pending: u8,
-    pub request: u8,
+    pub pending: bool,
+    pub request: bool,
     pub sequence: u8,
     pub destination: Address,
     pub srcmode: u8,

@@ -1,0 +1,9 @@
+pub mod Table
+pub mod Octet
+pub mod Field
+pub mod Fill
+pub mod Sixteen
+pub mod Rounds
+pub mod Expansion
+pub mod Laws
+pub mod Examples

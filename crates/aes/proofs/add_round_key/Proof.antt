@@ -1,0 +1,45 @@
+use mathlib.Core.Path.{_≡_, refl, sym, ap, ap₂, _∙_}
+use mathlib.Core.List.{List}
+use Prim.Native.Nat.{ℕ, _+_, _-_, _*_, _≤_, _<_}
+use native.Mathlib.Omega.{arith}
+use borrow.Author.Needs.{needs}
+use lib.Bits.{bitXor}
+use lib.Dec.{lit≤}
+use lib.ListN.{length, getD, take, drop, set, length-set}
+use lib.Seq.{getD-take, getD-drop}
+use Rattle.meaning.specs.Sbox.{sbox}
+use Rattle.meaning.specs.Cipher.{subBytes, addRoundKey, roundKey, keyOctet, expanded}
+use Rattle.aes.proofs.Fill.{Filled, filled-none, filled-more, filled-all}
+use Rattle.aes.proofs.add_round_key.Statement.{statement}
+use Rattle.aes.proofs.add_round_key.Tie as tie
+
+abbrev Inv-loop : tie.InvT-loop
+Inv-loop w n s t₀ i₀ t i = (i ≤ 16) × Filled (λ k. bitXor (getD s k 0) (getD (roundKey w n) k 0)) 16 t i
+
+abbrev μ-loop : tie.MeasureT-loop
+μ-loop w n s t₀ i₀ t i = 16 - i
+
+loop-holds : tie.Need-loop-holds Inv-loop μ-loop
+loop-holds c = (lit≤ tt, filled-none _ 16 _ refl)
+
+loop-again : tie.Need-loop-again Inv-loop μ-loop
+loop-again c =
+    let at = c .before .before in
+    let a = at .before .args in
+    let i = at .loop .i in
+    let e : getD (roundKey (a .w .now) (a .n)) i 0 ≡ getD (a .w .now) (16 * a .n + i) 0 =
+    getD-take 16 (drop (16 * a .n) (a .w .now)) i 0 (omega arith) ∙ getD-drop (16 * a .n) (a .w .now) i 0 in
+    (omega arith, filled-more _ 16 (at .loop .t) i _ (at .loop .inv .1) (omega arith) (ap (bitXor (getD (a .t1) i 0)) (sym e)))
+
+returns : tie.Need-returns Inv-loop μ-loop
+unfolding addRoundKey
+returns c =
+    let e : c .before .loop .i ≡ 16 = omega arith in
+    filled-all _ 16 (c .before .loop .t) (rw e at (c .before .loop .inv .1))
+
+pub add-round-key-spec : {M : Type 1} → statement M
+add-round-key-spec =
+    tie.close
+    (tie.spec
+    Inv-loop μ-loop loop-holds (λ c. omega arith) (λ c. omega arith) (λ c. omega arith) (λ c. omega arith) (λ c. omega arith)
+    (λ c. omega arith) (λ c. omega arith) loop-again returns)

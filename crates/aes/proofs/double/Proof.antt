@@ -1,0 +1,15 @@
+use borrow.Author.Needs.{needs}
+use Prim.Native.Nat.{ℕ, _*_, _/_, _%_, _^_}
+use lib.Bits.{bitXor}
+use Rattle.meaning.specs.Field.{xtime}
+use Rattle.aes.proofs.Octet.{same}
+use Rattle.aes.proofs.double.Statement.{statement}
+use Rattle.aes.proofs.double.Tie as tie
+
+returns : tie.Need-returns
+unfolding xtime
+returns c = same (λ a. bitXor (a * 2 % 256) (a / 128 * 27)) xtime 256 tt (c .args .a) (c .fits .a .fits)
+
+pub double-spec : {M : Type 1} → statement M
+double-spec = tie.close (tie.spec
+    (λ c. search needs) returns)

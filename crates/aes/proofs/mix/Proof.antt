@@ -1,0 +1,11 @@
+use borrow.Author.Needs.{needs}
+use Rattle.aes.proofs.Field.{two, three}
+use Rattle.aes.proofs.mix.Statement.{statement}
+use Rattle.aes.proofs.mix.Tie as tie
+
+returns : tie.Need-returns
+returns c = cc (two (c .before .before .args .a), three (c .before .before .args .b))
+
+pub mix-spec : {M : Type 1} → statement M
+mix-spec = tie.close (tie.spec
+    (λ c κs. search needs) (λ c κs. search needs) returns)

@@ -1,0 +1,20 @@
+use lib.Dec.{lit<}
+use mathlib.Core.Path.{refl}
+use Rattle.meaning.specs.Cipher.{shiftRows}
+use Rattle.aes.proofs.shift_rows.Statement.{statement}
+use Rattle.aes.proofs.shift_rows.Tie as tie
+use Rattle.aes.proofs.shift_rows.Reads as reads
+use Rattle.aes.proofs.shift_rows.Lts as lts
+
+-- src/lib.rt:72:1
+returns : tie.Need-returns
+unfolding shiftRows
+returns c = refl
+
+pub shift-rows-spec : {M : Type 1} → statement M
+shift-rows-spec =
+    tie.close
+    (tie.spec
+    (λ c. lit< tt) (λ c. lit< tt) (λ c. lit< tt) (λ c. lit< tt) (λ c. lit< tt) (λ c. lit< tt) (λ c. lit< tt) (λ c. lit< tt)
+    (λ c. lit< tt) (λ c. lit< tt) (λ c. lit< tt) (λ c. lit< tt) (λ c. lit< tt) (λ c. lit< tt) (λ c. lit< tt) (λ c. lit< tt)
+    returns)
