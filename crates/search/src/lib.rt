@@ -1,6 +1,7 @@
 // The searches of 'The security steps': the first record that fits, in the order of its table. Each takes the body of its own kind, whole records and no more, and changes nothing.
-use meaning::{Address, Device, Found};
-
+use meaning::Address;
+use meaning::Device;
+use meaning::Found;
 ghost use mathlib.Core.Path.{_≡_};
 ghost use mathlib.Core.Bool.{_&&_};
 ghost use mathlib.Core.List.{_++_};
@@ -11,7 +12,17 @@ ghost use Rattle.meaning.specs.Octets.{octs, tab};
 ghost use Rattle.meaning.specs.Frame.{addressLen, atLeast};
 ghost use Rattle.meaning.specs.Site.{records, deviceAt};
 ghost use Rattle.meaning.specs.Steps.{
-    fits, levelRow, passes, overrides, standIn, peerOf, isPeer, deviceRow, lookupRow, usageRow, handleRow
+  fits,
+  levelRow,
+  passes,
+  overrides,
+  standIn,
+  peerOf,
+  isPeer,
+  deviceRow,
+  lookupRow,
+  usageRow,
+  handleRow,
 };
 ghost use Rattle.search.specs.Rows.{keyRowBy, implicitRow};
 
@@ -63,7 +74,7 @@ fn allowed(set: u8, level: u8) -> bool
 }
 
 // Level record i lets the level pass: by its minimum where it has no list, else by its list.
-pub fn level_passes(levels: &[u8], i: usize, level: u8) -> bool
+pub fn passes(levels: &[u8], i: usize, level: u8) -> bool
     requires { ⌜ (i < records 5 (now levels)) × (level < 8) ⌝ }
     ensures { λ r. ⌜ r ≡ passes (now (levels .entry)) i level ⌝ }
 {
@@ -75,7 +86,7 @@ pub fn level_passes(levels: &[u8], i: usize, level: u8) -> bool
 }
 
 // Level record i lets devices override its minimum.
-pub fn level_overrides(levels: &[u8], i: usize) -> bool
+pub fn overrides(levels: &[u8], i: usize) -> bool
     requires { ⌜ i < records 5 (now levels) ⌝ }
     ensures { λ r. ⌜ r ≡ overrides (now (levels .entry)) i ⌝ }
 {
@@ -119,55 +130,39 @@ pub fn peer_of(settings: &[u8], a: Address) -> Address
     a
 }
 
-// The one device record given, without its counter.
-fn device_in(record: &[u8]) -> Device
-    ensures { λ r. ⌜ r ≡ deviceAt (now (record .entry)) 0 ⌝ }
-{
-    Device {
-        pan: octets::number16(record, 0),
-        short: octets::number16(record, 2),
-        extended: octets::number64(record, 4),
-        exempt: octets::octet(record, 16),
-    }
-}
-
 // Device record d, without its counter.
 pub fn device_at(devices: &[u8], d: usize) -> Device
     requires { ⌜ d < records 17 (now devices) ⌝ }
     ensures { λ r. ⌜ r ≡ deviceAt (now (devices .entry)) d ⌝ }
 {
     let at = 17 * d;
-    let end = at + 17;
-    device_in(&devices[at..end])
+    Device {
+        pan: octets::number16(devices, at),
+        short: octets::number16(devices, at + 2),
+        extended: octets::number64(devices, at + 4),
+        exempt: devices[at + 16],
+    }
 }
 
-// The one device record given is the peer's. Its address is read in the peer's form alone, and its PAN where that agrees.
-fn peer_in(record: &[u8], p: Address) -> bool
-    ensures { λ r. ⌜ r ≡ isPeer p (deviceAt (now (record .entry)) 0) ⌝ }
-{
-    if p.mode == 2 {
-        if octets::number16(record, 2) as u64 != p.address {
-            return false;
-        }
-        return octets::number16(record, 0) == p.pan;
-    }
-    if p.mode == 3 {
-        if octets::number64(record, 4) != p.address {
-            return false;
-        }
-        return octets::number16(record, 0) == p.pan;
-    }
-    false
-}
-
-// Device record d is the peer's.
+// Device record d is the peer's. Its address is read in the peer's form alone, and its PAN where that agrees.
 fn peer_at(devices: &[u8], d: usize, p: Address) -> bool
     requires { ⌜ d < records 17 (now devices) ⌝ }
     ensures { λ r. ⌜ r ≡ isPeer p (deviceAt (now (devices .entry)) d) ⌝ }
 {
     let at = 17 * d;
-    let end = at + 17;
-    peer_in(&devices[at..end], p)
+    if p.mode == 2 {
+        if octets::number16(devices, at + 2) as u64 != p.address {
+            return false;
+        }
+        return octets::number16(devices, at) == p.pan;
+    }
+    if p.mode == 3 {
+        if octets::number64(devices, at + 4) != p.address {
+            return false;
+        }
+        return octets::number16(devices, at) == p.pan;
+    }
+    false
 }
 
 // The first device record, in file order, that is the peer's.
@@ -242,27 +237,10 @@ fn address_len(mode: u8) -> usize
 fn peer_octets(p: Address) -> [u8; 10]
     ensures { λ r. ⌜ r ≡ octs 2 (p .pan) ++ octs 8 (p .address) ⌝ }
 {
-    let a = p.pan;
-    let b = p.address;
-    let b1 = b / 256;
-    let b2 = b1 / 256;
-    let b3 = b2 / 256;
-    let b4 = b3 / 256;
-    let b5 = b4 / 256;
-    let b6 = b5 / 256;
-    let b7 = b6 / 256;
-    [
-        (a % 256) as u8,
-        (a / 256 % 256) as u8,
-        (b % 256) as u8,
-        (b1 % 256) as u8,
-        (b2 % 256) as u8,
-        (b3 % 256) as u8,
-        (b4 % 256) as u8,
-        (b5 % 256) as u8,
-        (b6 % 256) as u8,
-        (b7 % 256) as u8,
-    ]
+    let mut octets = [0u8; 10];
+    octets::put16(&mut octets, 0, p.pan);
+    octets::put64(&mut octets, 2, p.address);
+    octets
 }
 
 // The first lookup record of mode 0 with the peer's mode, PAN and address; none where the peer is nobody.
