@@ -3,3 +3,4 @@ pub mod Scan
 pub mod Lists
 pub mod Frame
 pub mod Order
+pub mod Ways
