@@ -10,3 +10,4 @@ pub mod Numbers
 pub mod Sums
 pub mod Frame
 pub mod Order
+pub mod Ways
