@@ -11,3 +11,4 @@ pub mod Sums
 pub mod Frame
 pub mod Order
 pub mod Ways
+pub mod Sites
