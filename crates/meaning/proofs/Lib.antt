@@ -8,3 +8,4 @@ pub mod Numbers
 pub mod Frame
 pub mod Order
 pub mod Ways
+pub mod Sites
