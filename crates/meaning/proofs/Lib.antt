@@ -10,3 +10,4 @@ pub mod Frame
 pub mod Order
 pub mod Ways
 pub mod Ccm
+pub mod Sites
