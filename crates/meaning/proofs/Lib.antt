@@ -1,6 +1,7 @@
 pub mod Tests
 pub mod Scan
 pub mod Lists
+pub mod Xor
 pub mod Tabs
 pub mod Stores
 pub mod Same
@@ -8,4 +9,5 @@ pub mod Numbers
 pub mod Frame
 pub mod Order
 pub mod Ways
+pub mod Ccm
 pub mod Sites
