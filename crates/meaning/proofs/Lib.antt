@@ -11,4 +11,5 @@ pub mod Sums
 pub mod Frame
 pub mod Order
 pub mod Ways
+pub mod Ccm
 pub mod Sites
