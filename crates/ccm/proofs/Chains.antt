@@ -1,9 +1,9 @@
 -- The chain over a list that is padded in thought only: for the loop that goes through it block by block, and for the tag that joins three of them.
 -- Assumes nothing.
 use mathlib.Core.Path.{_≡_, refl, sym, ap, ap₂, _∙_}
-use mathlib.Core.Bool.{Bool, true, false}
-use mathlib.Core.List.{List, [], _∷_, _++_}
-use Prim.Native.Nat.{ℕ, zero, suc, _+_, _-_, _*_, _/_, _%_, _≤_, _<_}
+use mathlib.Core.Bool.{true, false}
+use mathlib.Core.List.{List, [], _++_}
+use Prim.Native.Nat.{ℕ, suc, _+_, _-_, _*_, _/_, _%_, _≤_, _<_}
 use native.Mathlib.Nat.{sub-zero}
 use native.Mathlib.Omega.{arith}
 use borrow.Author.Tests.{eq-eqb, ne-eqb}
@@ -11,7 +11,6 @@ use lib.Bits.{bitXor}
 use lib.Dec.{eqb}
 use lib.ListN.{length, getD, take, drop, replicate, length-take, length-drop, length-append}
 use lib.Seq.{take-all, drop-drop, getD-take, getD-drop}
-use Rattle.meaning.specs.Octets.{pick}
 use Rattle.meaning.specs.Ccm.{xorBy, size16, padded, firstBlock, counterBlock, dataBlocks, blocksOf, chain, macOf}
 use Rattle.meaning.proofs.Scan.{pick-all}
 use Rattle.meaning.proofs.Tabs.{tab-of}
@@ -118,7 +117,7 @@ module _ (E : List ℕ → List ℕ) (nonce : List ℕ) (m : ℕ) (a q : List �
       let D : List ℕ = dataBlocks a in
       let Q : List ℕ = padded q in
       let n : length (front ++ (D ++ Q)) / 16 ≡ 1 + (length D / 16 + length Q / 16) =
-          simp length-append (omega (arith, front-long, whole-data a, whole-padded q)) in
+      simp length-append (omega (arith, front-long, whole-data a, whole-padded q)) in
       ap (λ (k : ℕ). chain E zeros k (front ++ (D ++ Q))) n
       ∙ chain-append E 1 (length D / 16 + length Q / 16) zeros front (D ++ Q) front-long
       ∙ ap (λ (y : List ℕ). chain E y (length D / 16 + length Q / 16) (D ++ Q)) front-chain
