@@ -1,0 +1,4 @@
+pub mod Alike
+pub mod Secrecy
+pub mod Refusals
+pub mod Unique
