@@ -11,12 +11,12 @@ use mathlib.Core.Option.{Option, none, some}
 use lib.ListN.{length, getD, take, drop, length-append, length-take, length-drop}
 use lib.Dec.{leb, eqb}
 use Rattle.meaning.specs.Octets.{pick, part, beside}
-use Rattle.meaning.specs.Frame.{levelOf, counterOf, enciphers, tagLen, openCount, View, view, cutsOf, openEnd, privateLen}
+use Rattle.meaning.specs.Frame.{levelOf, counterOf, openCount, View, view, cutsOf, openEnd, privateLen}
 use Rattle.meaning.specs.Fcs.{inner, fcsRight}
-use Rattle.meaning.specs.Site.{countOf, siteRule, Store, tablesOf, storeOf, keyAt}
-use Rattle.meaning.specs.Steps.{noDevice}
+use Rattle.meaning.specs.Site.{widthOf, countOf, body, siteRule, Store, tablesOf, storeOf, keyAt}
+use Rattle.meaning.specs.Steps.{noDevice, handleOf}
 use Rattle.meaning.specs.Cipher.{cipher}
-use Rattle.meaning.specs.Ccm.{xorBy, Opened, crypt, unsealedBy, unsealed}
+use Rattle.meaning.specs.Ccm.{Opened}
 use Rattle.meaning.specs.Receive.{
   judged,
   refusal,
@@ -49,29 +49,20 @@ use Rattle.meaning.specs.declared.Judged.{Judged}
 use Rattle.meaning.specs.declared.Judged.the-variants.{Refused, Plain, Secure}
 use Rattle.meaning.proofs.Lists.{take-pre, take-comm, drop-pre, drop-more, over}
 use Rattle.meaning.proofs.Frame.{view-same, open-end}
-use Rattle.meaning.proofs.Named.{device-named}
+use Rattle.meaning.proofs.Ccm.{length-text}
+use Rattle.meaning.proofs.Ways.{secure-fits}
+use Rattle.meaning.proofs.Sites.{length-body, rule-handles, raised-rule}
 use Rattle.demands.specs.Secrecy.{keysAt, keysLen, AlikeSites, span, outside, tagAt, tagSeen, AlikeFrames, Paired, Agreed, Agree, Secret}
 use Rattle.demands.proofs.Alike.{alike-broken, alike-rule, alike-tables, alike-counters, raised-alike}
 
 -- ---- lengths
-xor-long : (q k : List ℕ) → length (xorBy q k) ≡ length q
-unfolding xorBy
-xor-long [] k = refl
-xor-long (x ∷ q) [] = refl
-xor-long (x ∷ q) (y ∷ k) = ap suc (xor-long q k)
-
-unsealed-long : (E : List ℕ → List ℕ) (c : Bool) (nonce : List ℕ) (m : ℕ) (a q t : List ℕ) → length (unsealedBy E c nonce m a q t .text) ≡ length q
-unfolding unsealedBy crypt
-unsealed-long E true nonce m a q t = xor-long q _
-unsealed-long E false nonce m a q t = refl
-
 private-long : (v : View) (b : List ℕ) → v .size ≡ length b → length (privateOf v b) ≡ privateLen v
 unfolding privateOf privateLen
 private-long v b e = simp (length-take, length-drop) (omega arith)
 
 opened-long : (k : List ℕ) (e : ℕ) (v : View) (b : List ℕ) → v .size ≡ length b → length (opened k e v b .text) ≡ privateLen v
-unfolding opened unsealed
-opened-long k e v b h = unsealed-long (cipher k) (enciphers (levelOf (v .aux))) _ _ _ _ _ ∙ private-long v b h
+unfolding opened
+opened-long k e v b h = length-text (cipher k) _ _ _ _ _ ∙ private-long v b h
 
 inner-long : (f : List ℕ) → length (inner f) ≡ length f - 2
 unfolding inner
@@ -178,7 +169,7 @@ kept-both s t a = a
 
 raised-both : (s t : List ℕ) (r : Raise) → siteRule s ≡ true → AlikeSites s t → Raises (countOf s 1) r → AlikeSites (raisedIn r s) (raisedIn r t)
 raised-both s t keep rule a h = kept-both s t a
-raised-both s t (raise j d c) rule a h = raised-alike s t rule a j d c h ?rule-kept
+raised-both s t (raise j d c) rule a h = raised-alike s t rule a j d c h (raised-rule s rule j d c h)
 
 open-same : (c : View) (f g : List ℕ) → take (openEnd (c .cuts)) f ≡ take (openEnd (c .cuts)) g
     → part (c .cuts .head + c .cuts .aux) (c .cuts .opens) f ≡ part (c .cuts .head + c .cuts .aux) (c .cuts .opens) g
@@ -252,8 +243,10 @@ module _ (m : ℕ) (s t f g o p : List ℕ) (st : Standing m s t o p) (a : Alike
     same-judged = judged-same s t f g o p (alike-tables s t rule (st .sites)) (a .lengths) (a .checks) same-view (st .rooms)
 
     named : (k j d : ℕ) → judged (storeOf s .tables) (length o) f ≡ Secure k j d → d < countOf s 1
-    unfolding storeOf
-    named k j d e = device-named s rule (length o) f k j d e
+    unfolding storeOf tablesOf handleOf widthOf
+    named k j d e =
+        let w = secure-fits (storeOf s .tables) (length o) f k j d e .1 in
+        omega (arith, w .device, rule-handles s rule j (omega (arith, w .handle-below, length-body s rule 6 (omega arith))))
 
     near : Near (view (inner f)) (countOf s 1) (verdict (storeOf s) (length o) f) (verdict (storeOf t) (length p) g)
     unfolding verdict
