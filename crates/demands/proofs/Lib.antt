@@ -2,3 +2,4 @@ pub mod Alike
 pub mod Secrecy
 pub mod Refusals
 pub mod Unique
+pub mod Witness

@@ -11,6 +11,7 @@ use mathlib.Core.Option.{Option, none, some}
 use lib.ListN.{length, getD, take, drop, length-append, length-take, length-drop}
 use lib.Dec.{leb, eqb}
 use Rattle.meaning.specs.Octets.{pick, part, beside}
+use Rattle.meaning.specs.Status.{number}
 use Rattle.meaning.specs.Frame.{levelOf, counterOf, openCount, View, view, cutsOf, openEnd, privateLen}
 use Rattle.meaning.specs.Fcs.{inner, fcsRight}
 use Rattle.meaning.specs.Site.{widthOf, countOf, body, siteRule, Store, tablesOf, storeOf, keyAt}
@@ -285,3 +286,46 @@ all m s t o p (f ∷ fs) (g ∷ gs) st ps =
 pub secrecy : Secret
 unfolding Secret
 secrecy s t o fs gs a ps = all 0 s t o o fs gs (record { sites = a; rooms = refl; outs = refl }) ps
+
+-- ---- the tag's verdict shows in the status
+module _ (s o : List ℕ) (v : View) (l d : ℕ) (r : Raise) where
+  shown-tagged : (q : List ℕ) (x : Bool) → write s o (tagged x q (report v l d) r) .answer .status ≡ pick x 0 15
+  unfolding write tagged report refusal number
+  shown-tagged q true = refl
+  shown-tagged q false = refl
+
+  shown-admit : (c : Bool) (w : Opened) (x : Bool) → pick c (some (w .right)) none ≡ some x
+      → write s o (admit c w (report v l d) r) .answer .status ≡ pick x 0 15
+  unfolding admit
+  shown-admit true w x e =
+      let z : w .right ≡ x = cc in
+      subst (λ (y : Bool). write s o (tagged y (w .text) (report v l d) r) .answer .status ≡ pick x 0 15) (sym z) (shown-tagged (w .text) x)
+  shown-admit false w x e = absurd (let z : _≡_ {A = ℕ} 0 1 = cc in omega arith)
+
+shown-settle : (σ : Store) (v : View) (s o b : List ℕ) (u : Judged) (x : Bool) → tagAt σ v b u ≡ some x
+    → write s o (settle σ v b u) .answer .status ≡ pick x 0 15
+unfolding tagAt settle
+shown-settle σ v s o b (Refused r) x e = absurd (let z : _≡_ {A = ℕ} 0 1 = cc in omega arith)
+shown-settle σ v s o b Plain x e = absurd (let z : _≡_ {A = ℕ} 0 1 = cc in omega arith)
+shown-settle σ v s o b (Secure k j d) x e = shown-admit s o v _ (suc d) _ (timely (stored (σ .counters) j d) (counterOf (v .aux))) _ x e
+
+pub tag-shown : (s f o : List ℕ) (x : Bool) → tagSeen s f o ≡ some x → received s f o .answer .status ≡ pick x 0 15
+unfolding tagSeen received receivedValid verdict
+tag-shown s f o x = by (siteRule s)
+  where
+    by : (c : Bool)
+        → pick c (tagAt (storeOf s) (view (inner f)) (inner f) (judged (storeOf s .tables) (length o) f)) none ≡ some x
+        → pick c (write s o (settle (storeOf s) (view (inner f)) (inner f) (judged (storeOf s .tables) (length o) f))) (outcome (refusal Site) s o) .answer .status ≡ pick x 0 15
+    by true e = shown-settle (storeOf s) (view (inner f)) s o (inner f) _ x e
+    by false e = absurd (let z : _≡_ {A = ℕ} 0 1 = cc in omega arith)
+
+-- so the tags agree where the statuses do
+pub tags-by-status : (s t f g o p : List ℕ) → received s f o .answer .status ≡ received t g p .answer .status
+    → (x y : Bool) → tagSeen s f o ≡ some x → tagSeen t g p ≡ some y → x ≡ y
+tags-by-status s t f g o p e x y i k = by x y (sym (tag-shown s f o x i) ∙ e ∙ tag-shown t g p y k)
+  where
+    by : (x y : Bool) → _≡_ {A = ℕ} (pick x 0 15) (pick y 0 15) → x ≡ y
+    by true true h = refl
+    by false false h = refl
+    by true false h = absurd (omega arith)
+    by false true h = absurd (omega arith)

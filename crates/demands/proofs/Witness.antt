@@ -1,0 +1,237 @@
+-- The premise of demand 3 is one that runs meet: two sites with different keys and seven pairs of frames, accepted and refused, each outcome
+-- computed from the definitions. The private octets differ in each pair that has some, and so do tags and FCS. Assumes nothing.
+use mathlib.Core.Path.{_≡_, refl, ap}
+use mathlib.Core.Logic.{_≢_}
+use Prim.Native.Nat.{ℕ, zero, suc, _+_}
+use native.Mathlib.Omega.{arith}
+use mathlib.Core.Bool.{Bool, true, false}
+use mathlib.Core.List.{List, [], _∷_, _++_}
+use lib.ListN.{length, getD, take, drop, replicate}
+use Rattle.meaning.specs.Octets.{leAt, octs, same, stands, beside, tab}
+use Rattle.meaning.specs.Status.{number}
+use Rattle.meaning.specs.Frame.{typeOf, securityOf, pendingOf, requestOf, compressionOf, destinationMode, versionOf, sourceMode, addressLen, destinationLen, sourceLen, addressAt, destinationOf, sourceOf, headerOf, levelOf, modeOf, counterOf, keySourceLen, keyIdLen, keyIndexOf, tagLen, enciphers, atLeast, gtsLen, pendingLen, pendingSum, pendingPart, then, headM, auxM, beaconM, openM, openCount, cutOpen, cutAux, divide, cutsOf, restOf, view, openEnd, privateLen, modesRight, compressionRight, shapeRight, headRight, pendingRight, bodied}
+use Rattle.meaning.specs.Fcs.{shifted, fed, summed, sum, fcs, inner, fcsRight}
+use Rattle.meaning.specs.Site.{widthOf, limitOf, leastOf, countOf, placeOf, startOf, entryRight, contentsRight, body, panId, shortAddress, extendedAddress, coordinatorShort, coordinatorExtended, defaultKeySource, securityOn, isCoordinator, ownCounter, deviceAt, counterAt, settingsRight, deviceRight, levelRight, lookupRight, usageRight, handleRight, clash, clashes, distinct, recordsRight, siteRule, settingsOf, tablesOf, storeOf, keyAt}
+use Rattle.meaning.specs.Filter.{strangePan, strangeShort, strangeExtended, strangeBeacon, strangeSource, cause}
+use Rattle.meaning.specs.Steps.{fits, levelRow, passes, overrides, standIn, peerOf, isPeer, deviceRow, fitsLookup, lookupRow, peerOctets, keySource, keyRow, keyOf, usageRow, handleOf, handleRow}
+use Rattle.meaning.specs.Ccm.{nonceOf, xorBy, size16, padded, flagsOf, firstBlock, dataBlocks, blocksOf, counterBlock, chain, macOf, tagOf, stream, crypt, sealedBy, sealed, unsealedBy, unsealed}
+use Rattle.meaning.specs.Receive.{check, try, split, commandOf, onDevice, onUse, onKey, onExempt, onPolicy, onLevel, onSecurity, onParts, onView, judge, judged, refusal, report, stored, raised, raisedIn, timely, privateOf, opened, tagged, admit, settle, verdict, write, receivedValid, received, Outcome, outcome, Raise, accept, keep, raise}
+use Rattle.meaning.specs.Field.{xtime, productBits, product}
+use Rattle.meaning.specs.Sbox.{square, inverse, bit, affineBit, affineBits, sbox}
+use Rattle.meaning.specs.Cipher.{subBytes, shiftRows, mixColumns, addRoundKey, power, temp, keyOctet, expanded, rounds, cipherWith, cipher}
+use Rattle.meaning.specs.Build.{withFcs}
+use Rattle.meaning.specs.declared.Refusal.the-variants.{Fcs, Filtered, CounterError}
+use Rattle.demands.specs.Secrecy.{keysAt, keysLen, AlikeSites, span, outside, AlikeFrames, Paired, Agree, Secret}
+use Rattle.demands.proofs.Secrecy.{secrecy, tags-by-status}
+
+-- ---- two sites: one device, one key; the key and the device's counter are given
+abbrev pub keyA : List ℕ
+keyA = tab (λ i. 0xc0 + i) 16
+
+abbrev pub keyB : List ℕ
+keyB = tab (λ i. 0x30 + i) 16
+
+abbrev pub siteOf : List ℕ → ℕ → List ℕ
+siteOf key counter =
+    -- table of contents
+    (1 ∷ 35 ∷ 1 ∷ 0 ∷ 42 ∷ 0 ∷ 2 ∷ 17 ∷ 1 ∷ 0 ∷ 77 ∷ 0 ∷ 3 ∷ 5 ∷ 1 ∷ 0 ∷ 94 ∷ 0 ∷ 4 ∷ 16 ∷ 1 ∷ 0 ∷ 99 ∷ 0
+    ∷ 5 ∷ 22 ∷ 1 ∷ 0 ∷ 115 ∷ 0 ∷ 6 ∷ 3 ∷ 1 ∷ 0 ∷ 137 ∷ 0 ∷ 7 ∷ 2 ∷ 1 ∷ 0 ∷ 140 ∷ 0 ∷ [])
+    -- PAN 0x4321, short 1, extended 0xacde480000000001, the device is the coordinator, security on
+    ++ ((0x21 ∷ 0x43 ∷ 1 ∷ 0 ∷ 1 ∷ 0 ∷ 0 ∷ 0 ∷ 0 ∷ 0x48 ∷ 0xde ∷ 0xac ∷ 2 ∷ 0 ∷ replicate 16 0)
+    ++ ((1 ∷ 0 ∷ 0 ∷ 0 ∷ 0 ∷ [])
+    -- the device: short 2, extended 0xacde480000000002
+    ++ ((0x21 ∷ 0x43 ∷ 2 ∷ 0 ∷ 2 ∷ 0 ∷ 0 ∷ 0 ∷ 0 ∷ 0x48 ∷ 0xde ∷ 0xac ∷ counter ∷ 0 ∷ 0 ∷ 0 ∷ 0 ∷ [])
+    -- every level of data; the key; mode 1 with index 7; data; the device
+    ++ ((1 ∷ 0 ∷ 0 ∷ 0 ∷ 0 ∷ [])
+    ++ (key
+    ++ ((0 ∷ 1 ∷ 7 ∷ replicate 19 0)
+    ++ ((0 ∷ 1 ∷ 0 ∷ [])
+    ++ (0 ∷ 0 ∷ []))))))))
+
+abbrev pub siteA : List ℕ
+siteA = siteOf keyA 5
+
+abbrev pub siteB : List ℕ
+siteB = siteOf keyB 5
+
+abbrev pub empty : List ℕ
+empty = replicate 127 0
+
+-- ---- the frames
+-- unsecured data from the device, with private octets q
+abbrev pub plain : List ℕ → List ℕ
+plain q = withFcs (0x41 ∷ 0x88 ∷ 1 ∷ 0x21 ∷ 0x43 ∷ 1 ∷ 0 ∷ 2 ∷ 0 ∷ q)
+
+-- for another PAN
+abbrev pub strange : List ℕ
+strange = withFcs (0x41 ∷ 0x88 ∷ 2 ∷ 0x99 ∷ 0x99 ∷ 1 ∷ 0 ∷ 2 ∷ 0 ∷ 7 ∷ [])
+
+-- with z for an FCS
+abbrev pub spoilt : ℕ → List ℕ
+spoilt z = 0x41 ∷ 0x88 ∷ 3 ∷ 0x21 ∷ 0x43 ∷ 1 ∷ 0 ∷ 2 ∷ 0 ∷ 7 ∷ z ∷ z ∷ []
+
+-- secured at a level, with a counter; after the open octets q has the private payload and the tag
+abbrev pub secured : ℕ → ℕ → List ℕ → List ℕ
+secured level counter q =
+    withFcs (0x09 ∷ 0x18 ∷ 5 ∷ 0x21 ∷ 0x43 ∷ 1 ∷ 0 ∷ (level + 8) ∷ counter ∷ 0 ∷ 0 ∷ 0 ∷ 7 ∷ q)
+
+abbrev pub lateA : List ℕ
+lateA = secured 6 4 (1 ∷ 2 ∷ 3 ∷ 4 ∷ 5 ∷ 6 ∷ 7 ∷ 8 ∷ 9 ∷ [])
+
+abbrev pub lateB : List ℕ
+lateB = secured 6 4 (9 ∷ 8 ∷ 7 ∷ 6 ∷ 5 ∷ 4 ∷ 3 ∷ 2 ∷ 1 ∷ [])
+
+-- level 1, with the right tags under the two keys
+abbrev pub taggedA : List ℕ
+taggedA = secured 1 5 (0x2a ∷ 0x63 ∷ 0x9b ∷ 0x2c ∷ 0xb1 ∷ [])
+
+abbrev pub taggedB : List ℕ
+taggedB = secured 1 5 (0x77 ∷ 0x7e ∷ 0xc7 ∷ 0xa7 ∷ 0xcd ∷ [])
+
+-- level 4: enciphered, without a tag
+abbrev pub untaggedA : List ℕ
+untaggedA = secured 4 6 (1 ∷ 2 ∷ [])
+
+abbrev pub untaggedB : List ℕ
+untaggedB = secured 4 6 (3 ∷ 4 ∷ [])
+
+abbrev pub framesA : List (List ℕ)
+framesA = plain (1 ∷ 2 ∷ 3 ∷ []) ∷ strange ∷ spoilt 0 ∷ lateA ∷ taggedA ∷ taggedA ∷ untaggedA ∷ []
+
+abbrev pub framesB : List (List ℕ)
+framesB = plain (4 ∷ 5 ∷ 6 ∷ []) ∷ strange ∷ spoilt 1 ∷ lateB ∷ taggedB ∷ taggedB ∷ untaggedB ∷ []
+
+-- ---- receiving, with all that it says opened
+unfoldable computed : List ℕ → List ℕ → List ℕ → Outcome
+unfolding leAt octs same stands beside number typeOf securityOf pendingOf requestOf compressionOf destinationMode
+   versionOf sourceMode addressLen destinationLen sourceLen addressAt destinationOf sourceOf headerOf levelOf modeOf
+   counterOf keySourceLen keyIdLen keyIndexOf tagLen enciphers atLeast gtsLen pendingLen pendingSum pendingPart then
+   headM auxM beaconM openM openCount cutOpen cutAux divide cutsOf restOf view openEnd privateLen modesRight
+   compressionRight shapeRight headRight pendingRight bodied shifted fed summed sum fcs inner fcsRight widthOf limitOf
+   leastOf countOf placeOf startOf entryRight contentsRight body panId shortAddress extendedAddress coordinatorShort
+   coordinatorExtended defaultKeySource securityOn isCoordinator ownCounter deviceAt counterAt settingsRight
+   deviceRight levelRight lookupRight usageRight handleRight clash clashes distinct recordsRight siteRule settingsOf
+   tablesOf storeOf keyAt strangePan strangeShort strangeExtended strangeBeacon strangeSource cause fits levelRow
+   passes overrides standIn peerOf isPeer deviceRow fitsLookup lookupRow peerOctets keySource keyRow keyOf usageRow
+   handleOf handleRow nonceOf xorBy size16 padded flagsOf firstBlock dataBlocks blocksOf counterBlock chain macOf
+   tagOf stream crypt sealedBy sealed unsealedBy unsealed check try split commandOf onDevice onUse onKey onExempt
+   onPolicy onLevel onSecurity onParts onView judge judged refusal report stored raised raisedIn timely privateOf
+   opened tagged admit settle verdict write receivedValid received withFcs keysAt keysLen span outside
+computed s f o = received s f o
+
+-- the first pair of two lists, by its outcomes
+pair : (s t f g o p : List ℕ) (fs gs : List (List ℕ)) (x y : Outcome) → received s f o ≡ x → received t g p ≡ y
+    → x .answer .status ≡ y .answer .status → length f ≡ length g → take (span (x .answer .status) f) f ≡ take (span (x .answer .status) f) g
+    → fcsRight f ≡ fcsRight g → Paired (x .site) (y .site) (x .out) (y .out) fs gs → Paired s t o p (f ∷ fs) (g ∷ gs)
+unfolding outside
+pair s t f g o p fs gs x y ex ey e l w c rest =
+    (record {
+      lengths = l;
+      octets = rw ex w;
+      checks = c;
+      tags = tags-by-status s t f g o p (rw (ex, ey) e);
+    },
+    rw (ex, ey) rest)
+
+-- ---- the outcomes
+abbrev outA : List ℕ
+outA = 1 ∷ 2 ∷ 3 ∷ replicate 124 0
+
+abbrev outB : List ℕ
+outB = 4 ∷ 5 ∷ 6 ∷ replicate 124 0
+
+-- accepted at a level, by a device, with the private octets q
+abbrev took : List ℕ → List ℕ → List ℕ → ℕ → ℕ → List ℕ → Raise → Outcome
+took s f o l d q r = write s o (accept (report (view (inner f)) l d) q r)
+
+plain-A : received siteA (plain (1 ∷ 2 ∷ 3 ∷ [])) empty ≡ took siteA (plain (1 ∷ 2 ∷ 3 ∷ [])) empty 0 0 (1 ∷ 2 ∷ 3 ∷ []) keep
+unfolding computed
+plain-A = refl
+
+plain-B : received siteB (plain (4 ∷ 5 ∷ 6 ∷ [])) empty ≡ took siteB (plain (4 ∷ 5 ∷ 6 ∷ [])) empty 0 0 (4 ∷ 5 ∷ 6 ∷ []) keep
+unfolding computed
+plain-B = refl
+
+strange-A : received siteA strange outA ≡ outcome (refusal Filtered) siteA outA
+unfolding computed
+strange-A = refl
+
+strange-B : received siteB strange outB ≡ outcome (refusal Filtered) siteB outB
+unfolding computed
+strange-B = refl
+
+spoilt-A : received siteA (spoilt 0) outA ≡ outcome (refusal Fcs) siteA outA
+unfolding computed
+spoilt-A = refl
+
+spoilt-B : received siteB (spoilt 1) outB ≡ outcome (refusal Fcs) siteB outB
+unfolding computed
+spoilt-B = refl
+
+late-A : received siteA lateA outA ≡ outcome (refusal CounterError) siteA outA
+unfolding computed
+late-A = refl
+
+late-B : received siteB lateB outB ≡ outcome (refusal CounterError) siteB outB
+unfolding computed
+late-B = refl
+
+-- the tag is computed by the cipher
+tagged-A : received siteA taggedA outA ≡ took siteA taggedA outA 1 1 (0x2a ∷ []) (raise 0 0 5)
+unfolding computed xtime productBits product square inverse bit affineBit affineBits sbox subBytes shiftRows mixColumns addRoundKey power temp keyOctet expanded rounds cipherWith cipher
+tagged-A = refl
+
+tagged-B : received siteB taggedB outB ≡ took siteB taggedB outB 1 1 (0x77 ∷ []) (raise 0 0 5)
+unfolding computed xtime productBits product square inverse bit affineBit affineBits sbox subBytes shiftRows mixColumns addRoundKey power temp keyOctet expanded rounds cipherWith cipher
+tagged-B = refl
+
+abbrev outA′ : List ℕ
+outA′ = 0x2a ∷ 2 ∷ 3 ∷ replicate 124 0
+
+abbrev outB′ : List ℕ
+outB′ = 0x77 ∷ 5 ∷ 6 ∷ replicate 124 0
+
+-- the counter stands at 6 now
+again-A : received (siteOf keyA 6) taggedA outA′ ≡ outcome (refusal CounterError) (siteOf keyA 6) outA′
+unfolding computed
+again-A = refl
+
+again-B : received (siteOf keyB 6) taggedB outB′ ≡ outcome (refusal CounterError) (siteOf keyB 6) outB′
+unfolding computed
+again-B = refl
+
+-- what the cipher makes of it is left as it stands
+abbrev text : List ℕ → List ℕ → List ℕ
+text key f = opened key 0xacde480000000002 (view (inner f)) (inner f) .text
+
+untagged-A : received (siteOf keyA 6) untaggedA outA′ ≡ took (siteOf keyA 6) untaggedA outA′ 4 1 (text keyA untaggedA) (raise 0 0 6)
+unfolding computed
+untagged-A = refl
+
+untagged-B : received (siteOf keyB 6) untaggedB outB′ ≡ took (siteOf keyB 6) untaggedB outB′ 4 1 (text keyB untaggedB) (raise 0 0 6)
+unfolding computed
+untagged-B = refl
+
+-- ---- the premise is met
+pub sites-alike : AlikeSites siteA siteB
+unfolding computed
+sites-alike = record { lengths = refl; before = refl; after = refl }
+
+pub keys-differ : siteA ≢ siteB
+keys-differ e = let z : _≡_ {A = ℕ} 0xc0 0x30 = ap (λ (s : List ℕ). getD s 99 0) e in omega arith
+
+pub frames-paired : Paired siteA siteB empty empty framesA framesB
+unfolding computed
+frames-paired =
+    pair siteA siteB (plain (1 ∷ 2 ∷ 3 ∷ [])) (plain (4 ∷ 5 ∷ 6 ∷ [])) empty empty (drop 1 framesA) (drop 1 framesB) _ _ plain-A plain-B refl refl refl refl
+    (pair siteA siteB strange strange outA outB (drop 2 framesA) (drop 2 framesB) _ _ strange-A strange-B refl refl refl refl
+    (pair siteA siteB (spoilt 0) (spoilt 1) outA outB (drop 3 framesA) (drop 3 framesB) _ _ spoilt-A spoilt-B refl refl refl refl
+    (pair siteA siteB lateA lateB outA outB (drop 4 framesA) (drop 4 framesB) _ _ late-A late-B refl refl refl refl
+    (pair siteA siteB taggedA taggedB outA outB (drop 5 framesA) (drop 5 framesB) _ _ tagged-A tagged-B refl refl refl refl
+    (pair (siteOf keyA 6) (siteOf keyB 6) taggedA taggedB outA′ outB′ (drop 6 framesA) (drop 6 framesB) _ _ again-A again-B refl refl refl refl
+    (pair (siteOf keyA 6) (siteOf keyB 6) untaggedA untaggedB outA′ outB′ (drop 7 framesA) (drop 7 framesB) _ _ untagged-A untagged-B refl refl refl refl
+    tt))))))
+
+pub they-agree : Agree 0 siteA siteB empty empty framesA framesB
+unfolding Secret
+they-agree = secrecy siteA siteB empty framesA framesB sites-alike frames-paired
