@@ -120,11 +120,20 @@ module _ (s t : List ℕ) (rule : siteRule s ≡ true) (a : AlikeSites s t) wher
   records-same : recordsRight s ≡ recordsRight t
   unfolding recordsRight
   records-same =
-      rw
-      (body-before 0 (omega arith), body-before 1 (omega arith), body-before 2 (omega arith), body-after 4 (omega arith) (omega arith),
-      body-after 5 (omega arith) (omega arith), body-after 6 (omega arith) (omega arith), count-same s t alike-contents 1 (omega arith),
-      count-same s t alike-contents 2 (omega arith), count-same s t alike-contents 3 (omega arith), count-same s t alike-contents 4 (omega arith),
-      count-same s t alike-contents 5 (omega arith), count-same s t alike-contents 6 (omega arith))
+      rw (
+        body-before 0 (omega arith),
+        body-before 1 (omega arith),
+        body-before 2 (omega arith),
+        body-after 4 (omega arith) (omega arith),
+        body-after 5 (omega arith) (omega arith),
+        body-after 6 (omega arith) (omega arith),
+        count-same s t alike-contents 1 (omega arith),
+        count-same s t alike-contents 2 (omega arith),
+        count-same s t alike-contents 3 (omega arith),
+        count-same s t alike-contents 4 (omega arith),
+        count-same s t alike-contents 5 (omega arith),
+        count-same s t alike-contents 6 (omega arith),
+      )
 
   pub alike-rule : siteRule t ≡ true
   unfolding siteRule
@@ -133,9 +142,15 @@ module _ (s t : List ℕ) (rule : siteRule s ≡ true) (a : AlikeSites s t) wher
   pub alike-tables : tablesOf s ≡ tablesOf t
   unfolding tablesOf settingsOf
   alike-tables =
-      rw
-      (body-before 0 (omega arith), body-before 1 (omega arith), body-before 2 (omega arith), body-after 4 (omega arith) (omega arith),
-      body-after 5 (omega arith) (omega arith), body-after 6 (omega arith) (omega arith), count-same s t alike-contents 1 (omega arith))
+      rw (
+        body-before 0 (omega arith),
+        body-before 1 (omega arith),
+        body-before 2 (omega arith),
+        body-after 4 (omega arith) (omega arith),
+        body-after 5 (omega arith) (omega arith),
+        body-after 6 (omega arith) (omega arith),
+        count-same s t alike-contents 1 (omega arith),
+      )
 
   counters-same : storeOf s .counters ≡ storeOf t .counters
   unfolding storeOf
@@ -174,10 +189,18 @@ module _ (s t : List ℕ) (rule : siteRule s ≡ true) (a : AlikeSites s t) (j d
   raised-alike kept = record {
     lengths = rw (here, beside) (length-sets s at (octs 4 (suc c)) ∙ a .lengths ∙ sym (length-sets t at (octs 4 (suc c))));
     before = rw (keys-at (raisedIn (raise j d c) s) kept, place-same _ s contents-kept 3 (omega arith), here, beside)
-      (take-sets-lt (octs 4 (suc c)) s at (placeOf s 3) ends
-      ∙ ap (λ (r : List ℕ). sets r at (octs 4 (suc c))) (before-keys s t rule a)
-      ∙ sym (take-sets-lt (octs 4 (suc c)) t at (placeOf s 3) ends));
-    after = rw (keys-at (raisedIn (raise j d c) s) kept, keys-len (raisedIn (raise j d c) s) kept, place-same _ s contents-kept 3 (omega arith), count-same _ s contents-kept 3 (omega arith), here, beside)
-      (drop-sets (octs 4 (suc c)) s at (placeOf s 3 + 16 * countOf s 3) (omega (arith, ends))
-      ∙ after-keys s t rule a
-      ∙ sym (drop-sets (octs 4 (suc c)) t at (placeOf s 3 + 16 * countOf s 3) (omega (arith, ends)))) }
+        (take-sets-lt (octs 4 (suc c)) s at (placeOf s 3) ends
+        ∙ ap (λ (r : List ℕ). sets r at (octs 4 (suc c))) (before-keys s t rule a)
+        ∙ sym (take-sets-lt (octs 4 (suc c)) t at (placeOf s 3) ends));
+    after = rw (
+      keys-at (raisedIn (raise j d c) s) kept,
+      keys-len (raisedIn (raise j d c) s) kept,
+      place-same _ s contents-kept 3 (omega arith),
+      count-same _ s contents-kept 3 (omega arith),
+      here,
+      beside,
+    )
+        (drop-sets (octs 4 (suc c)) s at (placeOf s 3 + 16 * countOf s 3) (omega (arith, ends))
+        ∙ after-keys s t rule a
+        ∙ sym (drop-sets (octs 4 (suc c)) t at (placeOf s 3 + 16 * countOf s 3) (omega (arith, ends))));
+  }

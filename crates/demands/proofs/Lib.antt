@@ -2,4 +2,5 @@ pub mod Alike
 pub mod Secrecy
 pub mod Refusals
 pub mod Unique
+pub mod Computing
 pub mod Witness

@@ -62,23 +62,23 @@ pub listed : (r : Refusal) → (1 ≤ number r) × (number r ≤ 17)
 unfolding number
 listed r =
     elim r [
-      Site ↦ omega arith
-    | Room ↦ omega arith
-    | Length ↦ omega arith
-    | Fcs ↦ omega arith
-    | Malformed ↦ omega arith
-    | Filtered ↦ omega arith
-    | UnsupportedLegacy ↦ omega arith
-    | UnsupportedSecurity ↦ omega arith
-    | UnavailableSecurityLevel ↦ omega arith
-    | ImproperSecurityLevel ↦ omega arith
-    | UnavailableKey ↦ omega arith
-    | ImproperKeyType ↦ omega arith
-    | UnavailableDevice ↦ omega arith
-    | CounterError ↦ omega arith
-    | SecurityError ↦ omega arith
-    | FrameTooLong ↦ omega arith
-    | InvalidParameter ↦ omega arith
+      | Site ↦ omega arith
+      | Room ↦ omega arith
+      | Length ↦ omega arith
+      | Fcs ↦ omega arith
+      | Malformed ↦ omega arith
+      | Filtered ↦ omega arith
+      | UnsupportedLegacy ↦ omega arith
+      | UnsupportedSecurity ↦ omega arith
+      | UnavailableSecurityLevel ↦ omega arith
+      | ImproperSecurityLevel ↦ omega arith
+      | UnavailableKey ↦ omega arith
+      | ImproperKeyType ↦ omega arith
+      | UnavailableDevice ↦ omega arith
+      | CounterError ↦ omega arith
+      | SecurityError ↦ omega arith
+      | FrameTooLong ↦ omega arith
+      | InvalidParameter ↦ omega arith
     ]
 
 -- ---- receiving

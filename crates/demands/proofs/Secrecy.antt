@@ -109,8 +109,10 @@ module _ (f g : List ℕ) (l : length f ≡ length g) where
     where
       upto : (k : ℕ) → span status f ≡ k → take k f ≡ take k g
       upto k c = subst (λ (n : ℕ). take n f ≡ take n g) c e
+
       nearly : span status f ≡ length f - 2 → view (inner f) ≡ view (inner g)
       nearly c = ap view (inner-same (upto _ c))
+
       whole : span status f ≡ length f → view (inner f) ≡ view (inner g)
       whole c = ap view (inner-same (take-pre (length f) f g (upto _ c) (length f - 2) (omega arith)))
 
@@ -194,7 +196,8 @@ module _ (m : ℕ) (s t f g o p : List ℕ) (v : View) (rule : siteRule s ≡ tr
   -- an acceptance in both
   both-accept : (l d : ℕ) (q q′ : List ℕ) (r : Raise) → length q ≡ privateLen v → length q′ ≡ privateLen v → Raises (countOf s 1) r
       → take (openEnd (v .cuts)) f ≡ take (openEnd (v .cuts)) g
-      → Agreed (max m (report v l d .private)) f g (outcome (report v l d) (raisedIn r s) (beside q o)) (outcome (report v l d) (raisedIn r t) (beside q′ p))
+      → Agreed (max m (report v l d .private)) f g (outcome (report v l d) (raisedIn r s) (beside q o))
+      (outcome (report v l d) (raisedIn r t) (beside q′ p))
   unfolding report beside
   both-accept l d q q′ r lq lq′ h e = record {
     answers = refl;
@@ -202,7 +205,9 @@ module _ (m : ℕ) (s t f g o p : List ℕ) (v : View) (rule : siteRule s ≡ tr
     counters = alike-counters _ _ (raised-both s t r rule (a .sites) h);
     sites = raised-both s t r rule (a .sites) h;
     rooms = simp (length-append, length-drop) (rw (lq, lq′, a .rooms));
-    outs = over q o (max m (privateLen v)) (omega (arith, lq)) ∙ drop-more m _ o p (a .outs) (le-max-left m (privateLen v)) ∙ sym (over q′ p (max m (privateLen v)) (omega (arith, lq′)));
+    outs = over q o (max m (privateLen v)) (omega (arith, lq))
+        ∙ drop-more m _ o p (a .outs) (le-max-left m (privateLen v))
+        ∙ sym (over q′ p (max m (privateLen v)) (omega (arith, lq′)));
   }
 
   stepped : (x y : Verdict) → Near v (countOf s 1) x y → (write s o x .answer .status ≡ 0 → take (openEnd (v .cuts)) f ≡ take (openEnd (v .cuts)) g)
@@ -225,7 +230,8 @@ module _ (s f o : List ℕ) where
   unfolding tagSeen
   tag-seen e = rw e
 
-judged-same : (s t f g o p : List ℕ) → tablesOf s ≡ tablesOf t → length f ≡ length g → fcsRight f ≡ fcsRight g → view (inner f) ≡ view (inner g)
+judged-same : (s t f g o p : List ℕ) → tablesOf s ≡ tablesOf t → length f ≡ length g → fcsRight f ≡ fcsRight g
+    → view (inner f) ≡ view (inner g)
     → length o ≡ length p → judged (storeOf s .tables) (length o) f ≡ judged (storeOf t .tables) (length p) g
 unfolding judged storeOf
 judged-same s t f g o p et l c ev r = rw (et, l, c, ev, r)
@@ -315,7 +321,8 @@ tag-shown s f o x = by (siteRule s)
   where
     by : (c : Bool)
         → pick c (tagAt (storeOf s) (view (inner f)) (inner f) (judged (storeOf s .tables) (length o) f)) none ≡ some x
-        → pick c (write s o (settle (storeOf s) (view (inner f)) (inner f) (judged (storeOf s .tables) (length o) f))) (outcome (refusal Site) s o) .answer .status ≡ pick x 0 15
+        → pick c (write s o (settle (storeOf s) (view (inner f)) (inner f) (judged (storeOf s .tables) (length o) f)))
+        (outcome (refusal Site) s o) .answer .status ≡ pick x 0 15
     by true e = shown-settle (storeOf s) (view (inner f)) s o (inner f) _ x e
     by false e = absurd (let z : _≡_ {A = ℕ} 0 1 = cc in omega arith)
 

@@ -7,22 +7,15 @@ use native.Mathlib.Omega.{arith}
 use mathlib.Core.Bool.{Bool, true, false}
 use mathlib.Core.List.{List, [], _∷_, _++_}
 use lib.ListN.{length, getD, take, drop, replicate}
-use Rattle.meaning.specs.Octets.{leAt, octs, same, stands, beside, tab}
-use Rattle.meaning.specs.Status.{number}
-use Rattle.meaning.specs.Frame.{typeOf, securityOf, pendingOf, requestOf, compressionOf, destinationMode, versionOf, sourceMode, addressLen, destinationLen, sourceLen, addressAt, destinationOf, sourceOf, headerOf, levelOf, modeOf, counterOf, keySourceLen, keyIdLen, keyIndexOf, tagLen, enciphers, atLeast, gtsLen, pendingLen, pendingSum, pendingPart, then, headM, auxM, beaconM, openM, openCount, cutOpen, cutAux, divide, cutsOf, restOf, view, openEnd, privateLen, modesRight, compressionRight, shapeRight, headRight, pendingRight, bodied}
-use Rattle.meaning.specs.Fcs.{shifted, fed, summed, sum, fcs, inner, fcsRight}
-use Rattle.meaning.specs.Site.{widthOf, limitOf, leastOf, countOf, placeOf, startOf, entryRight, contentsRight, body, panId, shortAddress, extendedAddress, coordinatorShort, coordinatorExtended, defaultKeySource, securityOn, isCoordinator, ownCounter, deviceAt, counterAt, settingsRight, deviceRight, levelRight, lookupRight, usageRight, handleRight, clash, clashes, distinct, recordsRight, siteRule, settingsOf, tablesOf, storeOf, keyAt}
-use Rattle.meaning.specs.Filter.{strangePan, strangeShort, strangeExtended, strangeBeacon, strangeSource, cause}
-use Rattle.meaning.specs.Steps.{fits, levelRow, passes, overrides, standIn, peerOf, isPeer, deviceRow, fitsLookup, lookupRow, peerOctets, keySource, keyRow, keyOf, usageRow, handleOf, handleRow}
-use Rattle.meaning.specs.Ccm.{nonceOf, xorBy, size16, padded, flagsOf, firstBlock, dataBlocks, blocksOf, counterBlock, chain, macOf, tagOf, stream, crypt, sealedBy, sealed, unsealedBy, unsealed}
-use Rattle.meaning.specs.Receive.{check, try, split, commandOf, onDevice, onUse, onKey, onExempt, onPolicy, onLevel, onSecurity, onParts, onView, judge, judged, refusal, report, stored, raised, raisedIn, timely, privateOf, opened, tagged, admit, settle, verdict, write, receivedValid, received, Outcome, outcome, Raise, accept, keep, raise}
-use Rattle.meaning.specs.Field.{xtime, productBits, product}
-use Rattle.meaning.specs.Sbox.{square, inverse, bit, affineBit, affineBits, sbox}
-use Rattle.meaning.specs.Cipher.{subBytes, shiftRows, mixColumns, addRoundKey, power, temp, keyOctet, expanded, rounds, cipherWith, cipher}
+use Rattle.meaning.specs.Octets.{tab}
+use Rattle.meaning.specs.Frame.{view}
+use Rattle.meaning.specs.Fcs.{inner, fcsRight}
+use Rattle.meaning.specs.Receive.{refusal, report, Raise, keep, raise, accept, opened, Outcome, outcome, write, received}
 use Rattle.meaning.specs.Build.{withFcs}
 use Rattle.meaning.specs.declared.Refusal.the-variants.{Fcs, Filtered, CounterError}
 use Rattle.demands.specs.Secrecy.{keysAt, keysLen, AlikeSites, span, outside, AlikeFrames, Paired, Agree, Secret}
 use Rattle.demands.proofs.Secrecy.{secrecy, tags-by-status}
+use Rattle.demands.proofs.Computing.{computed, ciphered}
 
 -- ---- two sites: one device, one key; the key and the device's counter are given
 abbrev pub keyA : List ℕ
@@ -101,127 +94,110 @@ framesA = plain (1 ∷ 2 ∷ 3 ∷ []) ∷ strange ∷ spoilt 0 ∷ lateA ∷ ta
 abbrev pub framesB : List (List ℕ)
 framesB = plain (4 ∷ 5 ∷ 6 ∷ []) ∷ strange ∷ spoilt 1 ∷ lateB ∷ taggedB ∷ taggedB ∷ untaggedB ∷ []
 
--- ---- receiving, with all that it says opened
-unfoldable computed : List ℕ → List ℕ → List ℕ → Outcome
-unfolding leAt octs same stands beside number typeOf securityOf pendingOf requestOf compressionOf destinationMode
-   versionOf sourceMode addressLen destinationLen sourceLen addressAt destinationOf sourceOf headerOf levelOf modeOf
-   counterOf keySourceLen keyIdLen keyIndexOf tagLen enciphers atLeast gtsLen pendingLen pendingSum pendingPart then
-   headM auxM beaconM openM openCount cutOpen cutAux divide cutsOf restOf view openEnd privateLen modesRight
-   compressionRight shapeRight headRight pendingRight bodied shifted fed summed sum fcs inner fcsRight widthOf limitOf
-   leastOf countOf placeOf startOf entryRight contentsRight body panId shortAddress extendedAddress coordinatorShort
-   coordinatorExtended defaultKeySource securityOn isCoordinator ownCounter deviceAt counterAt settingsRight
-   deviceRight levelRight lookupRight usageRight handleRight clash clashes distinct recordsRight siteRule settingsOf
-   tablesOf storeOf keyAt strangePan strangeShort strangeExtended strangeBeacon strangeSource cause fits levelRow
-   passes overrides standIn peerOf isPeer deviceRow fitsLookup lookupRow peerOctets keySource keyRow keyOf usageRow
-   handleOf handleRow nonceOf xorBy size16 padded flagsOf firstBlock dataBlocks blocksOf counterBlock chain macOf
-   tagOf stream crypt sealedBy sealed unsealedBy unsealed check try split commandOf onDevice onUse onKey onExempt
-   onPolicy onLevel onSecurity onParts onView judge judged refusal report stored raised raisedIn timely privateOf
-   opened tagged admit settle verdict write receivedValid received withFcs keysAt keysLen span outside
-computed s f o = received s f o
-
 -- the first pair of two lists, by its outcomes
 pair : (s t f g o p : List ℕ) (fs gs : List (List ℕ)) (x y : Outcome) → received s f o ≡ x → received t g p ≡ y
     → x .answer .status ≡ y .answer .status → length f ≡ length g → take (span (x .answer .status) f) f ≡ take (span (x .answer .status) f) g
     → fcsRight f ≡ fcsRight g → Paired (x .site) (y .site) (x .out) (y .out) fs gs → Paired s t o p (f ∷ fs) (g ∷ gs)
 unfolding outside
-pair s t f g o p fs gs x y ex ey e l w c rest =
-    (record {
-      lengths = l;
-      octets = rw ex w;
-      checks = c;
-      tags = tags-by-status s t f g o p (rw (ex, ey) e);
-    },
-    rw (ex, ey) rest)
+pair s t f g o p fs gs x y ex ey e l w c rest = (
+  record {
+    lengths = l;
+    octets = rw ex w;
+    checks = c;
+    tags = tags-by-status s t f g o p (rw (ex, ey) e);
+  },
+  rw (ex, ey) rest,
+)
 
 -- ---- the outcomes
-abbrev outA : List ℕ
+abbrev pub outA : List ℕ
 outA = 1 ∷ 2 ∷ 3 ∷ replicate 124 0
 
-abbrev outB : List ℕ
+abbrev pub outB : List ℕ
 outB = 4 ∷ 5 ∷ 6 ∷ replicate 124 0
 
 -- accepted at a level, by a device, with the private octets q
-abbrev took : List ℕ → List ℕ → List ℕ → ℕ → ℕ → List ℕ → Raise → Outcome
+abbrev pub took : List ℕ → List ℕ → List ℕ → ℕ → ℕ → List ℕ → Raise → Outcome
 took s f o l d q r = write s o (accept (report (view (inner f)) l d) q r)
 
-plain-A : received siteA (plain (1 ∷ 2 ∷ 3 ∷ [])) empty ≡ took siteA (plain (1 ∷ 2 ∷ 3 ∷ [])) empty 0 0 (1 ∷ 2 ∷ 3 ∷ []) keep
+pub plain-A : received siteA (plain (1 ∷ 2 ∷ 3 ∷ [])) empty ≡ took siteA (plain (1 ∷ 2 ∷ 3 ∷ [])) empty 0 0 (1 ∷ 2 ∷ 3 ∷ []) keep
 unfolding computed
 plain-A = refl
 
-plain-B : received siteB (plain (4 ∷ 5 ∷ 6 ∷ [])) empty ≡ took siteB (plain (4 ∷ 5 ∷ 6 ∷ [])) empty 0 0 (4 ∷ 5 ∷ 6 ∷ []) keep
+pub plain-B : received siteB (plain (4 ∷ 5 ∷ 6 ∷ [])) empty ≡ took siteB (plain (4 ∷ 5 ∷ 6 ∷ [])) empty 0 0 (4 ∷ 5 ∷ 6 ∷ []) keep
 unfolding computed
 plain-B = refl
 
-strange-A : received siteA strange outA ≡ outcome (refusal Filtered) siteA outA
+pub strange-A : received siteA strange outA ≡ outcome (refusal Filtered) siteA outA
 unfolding computed
 strange-A = refl
 
-strange-B : received siteB strange outB ≡ outcome (refusal Filtered) siteB outB
+pub strange-B : received siteB strange outB ≡ outcome (refusal Filtered) siteB outB
 unfolding computed
 strange-B = refl
 
-spoilt-A : received siteA (spoilt 0) outA ≡ outcome (refusal Fcs) siteA outA
+pub spoilt-A : received siteA (spoilt 0) outA ≡ outcome (refusal Fcs) siteA outA
 unfolding computed
 spoilt-A = refl
 
-spoilt-B : received siteB (spoilt 1) outB ≡ outcome (refusal Fcs) siteB outB
+pub spoilt-B : received siteB (spoilt 1) outB ≡ outcome (refusal Fcs) siteB outB
 unfolding computed
 spoilt-B = refl
 
-late-A : received siteA lateA outA ≡ outcome (refusal CounterError) siteA outA
+pub late-A : received siteA lateA outA ≡ outcome (refusal CounterError) siteA outA
 unfolding computed
 late-A = refl
 
-late-B : received siteB lateB outB ≡ outcome (refusal CounterError) siteB outB
+pub late-B : received siteB lateB outB ≡ outcome (refusal CounterError) siteB outB
 unfolding computed
 late-B = refl
 
 -- the tag is computed by the cipher
-tagged-A : received siteA taggedA outA ≡ took siteA taggedA outA 1 1 (0x2a ∷ []) (raise 0 0 5)
-unfolding computed xtime productBits product square inverse bit affineBit affineBits sbox subBytes shiftRows mixColumns addRoundKey power temp keyOctet expanded rounds cipherWith cipher
+pub tagged-A : received siteA taggedA outA ≡ took siteA taggedA outA 1 1 (0x2a ∷ []) (raise 0 0 5)
+unfolding computed ciphered
 tagged-A = refl
 
-tagged-B : received siteB taggedB outB ≡ took siteB taggedB outB 1 1 (0x77 ∷ []) (raise 0 0 5)
-unfolding computed xtime productBits product square inverse bit affineBit affineBits sbox subBytes shiftRows mixColumns addRoundKey power temp keyOctet expanded rounds cipherWith cipher
+pub tagged-B : received siteB taggedB outB ≡ took siteB taggedB outB 1 1 (0x77 ∷ []) (raise 0 0 5)
+unfolding computed ciphered
 tagged-B = refl
 
-abbrev outA′ : List ℕ
+abbrev pub outA′ : List ℕ
 outA′ = 0x2a ∷ 2 ∷ 3 ∷ replicate 124 0
 
-abbrev outB′ : List ℕ
+abbrev pub outB′ : List ℕ
 outB′ = 0x77 ∷ 5 ∷ 6 ∷ replicate 124 0
 
 -- the counter stands at 6 now
-again-A : received (siteOf keyA 6) taggedA outA′ ≡ outcome (refusal CounterError) (siteOf keyA 6) outA′
+pub again-A : received (siteOf keyA 6) taggedA outA′ ≡ outcome (refusal CounterError) (siteOf keyA 6) outA′
 unfolding computed
 again-A = refl
 
-again-B : received (siteOf keyB 6) taggedB outB′ ≡ outcome (refusal CounterError) (siteOf keyB 6) outB′
+pub again-B : received (siteOf keyB 6) taggedB outB′ ≡ outcome (refusal CounterError) (siteOf keyB 6) outB′
 unfolding computed
 again-B = refl
 
 -- what the cipher makes of it is left as it stands
-abbrev text : List ℕ → List ℕ → List ℕ
+abbrev pub text : List ℕ → List ℕ → List ℕ
 text key f = opened key 0xacde480000000002 (view (inner f)) (inner f) .text
 
-untagged-A : received (siteOf keyA 6) untaggedA outA′ ≡ took (siteOf keyA 6) untaggedA outA′ 4 1 (text keyA untaggedA) (raise 0 0 6)
+pub untagged-A : received (siteOf keyA 6) untaggedA outA′ ≡ took (siteOf keyA 6) untaggedA outA′ 4 1 (text keyA untaggedA) (raise 0 0 6)
 unfolding computed
 untagged-A = refl
 
-untagged-B : received (siteOf keyB 6) untaggedB outB′ ≡ took (siteOf keyB 6) untaggedB outB′ 4 1 (text keyB untaggedB) (raise 0 0 6)
+pub untagged-B : received (siteOf keyB 6) untaggedB outB′ ≡ took (siteOf keyB 6) untaggedB outB′ 4 1 (text keyB untaggedB) (raise 0 0 6)
 unfolding computed
 untagged-B = refl
 
 -- ---- the premise is met
 pub sites-alike : AlikeSites siteA siteB
-unfolding computed
+unfolding computed keysAt keysLen
 sites-alike = record { lengths = refl; before = refl; after = refl }
 
 pub keys-differ : siteA ≢ siteB
 keys-differ e = let z : _≡_ {A = ℕ} 0xc0 0x30 = ap (λ (s : List ℕ). getD s 99 0) e in omega arith
 
 pub frames-paired : Paired siteA siteB empty empty framesA framesB
-unfolding computed
+unfolding computed span
 frames-paired =
     pair siteA siteB (plain (1 ∷ 2 ∷ 3 ∷ [])) (plain (4 ∷ 5 ∷ 6 ∷ [])) empty empty (drop 1 framesA) (drop 1 framesB) _ _ plain-A plain-B refl refl refl refl
     (pair siteA siteB strange strange outA outB (drop 2 framesA) (drop 2 framesB) _ _ strange-A strange-B refl refl refl refl
