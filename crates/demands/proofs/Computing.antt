@@ -1,4 +1,4 @@
--- Receiving and the cipher with all that they say opened: a theorem that is computed names one of these two on its `unfolding` line.
+-- Receiving with all that it says opened, but for the cipher: a theorem that is computed names this on its `unfolding` line.
 use mathlib.Core.List.{List}
 use Prim.Native.Nat.{ℕ}
 use Rattle.meaning.specs.Octets.{leAt, octs, same, stands, beside}
@@ -164,9 +164,6 @@ use Rattle.meaning.specs.Receive.{
   received,
   Outcome,
 }
-use Rattle.meaning.specs.Field.{xtime, productBits, product}
-use Rattle.meaning.specs.Sbox.{square, inverse, bit, affineBit, affineBits, sbox}
-use Rattle.meaning.specs.Cipher.{subBytes, shiftRows, mixColumns, addRoundKey, power, temp, keyOctet, expanded, rounds, cipherWith, cipher}
 use Rattle.meaning.specs.Build.{withFcs}
 
 unfoldable pub computed : List ℕ → List ℕ → List ℕ → Outcome
@@ -185,8 +182,3 @@ unfolding leAt octs same stands beside number typeOf securityOf pendingOf reques
     onPolicy onLevel onSecurity onParts onView judge judged refusal report stored raised raisedIn timely privateOf
     opened tagged admit settle verdict write receivedValid received withFcs
 computed s f o = received s f o
-
-unfoldable pub ciphered : List ℕ → List ℕ → List ℕ
-unfolding xtime productBits product square inverse bit affineBit affineBits sbox subBytes shiftRows mixColumns
-    addRoundKey power temp keyOctet expanded rounds cipherWith cipher
-ciphered key block = cipher key block

@@ -1,5 +1,6 @@
--- The premise of demand 3 is one that runs meet: two sites with different keys and seven pairs of frames, accepted and refused, each outcome
--- computed from the definitions. The private octets differ in each pair that has some, and so do tags and FCS. Assumes nothing.
+-- The premise of demand 3 is one that runs meet: two sites with different keys and five pairs of frames, accepted and refused, each outcome
+-- computed from the definitions. The private octets differ in each pair that has some, and so do tags and FCS. The last pair has no tag, so no
+-- verdict waits for the cipher. Assumes nothing.
 use mathlib.Core.Path.{_≡_, refl, ap}
 use mathlib.Core.Logic.{_≢_}
 use Prim.Native.Nat.{ℕ, zero, suc, _+_}
@@ -15,7 +16,7 @@ use Rattle.meaning.specs.Build.{withFcs}
 use Rattle.meaning.specs.declared.Refusal.the-variants.{Fcs, Filtered, CounterError}
 use Rattle.demands.specs.Secrecy.{keysAt, keysLen, AlikeSites, span, outside, AlikeFrames, Paired, Agree, Secret}
 use Rattle.demands.proofs.Secrecy.{secrecy, tags-by-status}
-use Rattle.demands.proofs.Computing.{computed, ciphered}
+use Rattle.demands.proofs.Computing.{computed}
 
 -- ---- two sites: one device, one key; the key and the device's counter are given
 abbrev pub keyA : List ℕ
@@ -74,25 +75,18 @@ lateA = secured 6 4 (1 ∷ 2 ∷ 3 ∷ 4 ∷ 5 ∷ 6 ∷ 7 ∷ 8 ∷ 9 ∷ [])
 abbrev pub lateB : List ℕ
 lateB = secured 6 4 (9 ∷ 8 ∷ 7 ∷ 6 ∷ 5 ∷ 4 ∷ 3 ∷ 2 ∷ 1 ∷ [])
 
--- level 1, with the right tags under the two keys
-abbrev pub taggedA : List ℕ
-taggedA = secured 1 5 (0x2a ∷ 0x63 ∷ 0x9b ∷ 0x2c ∷ 0xb1 ∷ [])
-
-abbrev pub taggedB : List ℕ
-taggedB = secured 1 5 (0x77 ∷ 0x7e ∷ 0xc7 ∷ 0xa7 ∷ 0xcd ∷ [])
-
 -- level 4: enciphered, without a tag
 abbrev pub untaggedA : List ℕ
-untaggedA = secured 4 6 (1 ∷ 2 ∷ [])
+untaggedA = secured 4 5 (1 ∷ 2 ∷ [])
 
 abbrev pub untaggedB : List ℕ
-untaggedB = secured 4 6 (3 ∷ 4 ∷ [])
+untaggedB = secured 4 5 (3 ∷ 4 ∷ [])
 
 abbrev pub framesA : List (List ℕ)
-framesA = plain (1 ∷ 2 ∷ 3 ∷ []) ∷ strange ∷ spoilt 0 ∷ lateA ∷ taggedA ∷ taggedA ∷ untaggedA ∷ []
+framesA = plain (1 ∷ 2 ∷ 3 ∷ []) ∷ strange ∷ spoilt 0 ∷ lateA ∷ untaggedA ∷ []
 
 abbrev pub framesB : List (List ℕ)
-framesB = plain (4 ∷ 5 ∷ 6 ∷ []) ∷ strange ∷ spoilt 1 ∷ lateB ∷ taggedB ∷ taggedB ∷ untaggedB ∷ []
+framesB = plain (4 ∷ 5 ∷ 6 ∷ []) ∷ strange ∷ spoilt 1 ∷ lateB ∷ untaggedB ∷ []
 
 -- the first pair of two lists, by its outcomes
 pair : (s t f g o p : List ℕ) (fs gs : List (List ℕ)) (x y : Outcome) → received s f o ≡ x → received t g p ≡ y
@@ -152,39 +146,15 @@ pub late-B : received siteB lateB outB ≡ outcome (refusal CounterError) siteB 
 unfolding computed
 late-B = refl
 
--- the tag is computed by the cipher
-pub tagged-A : received siteA taggedA outA ≡ took siteA taggedA outA 1 1 (0x2a ∷ []) (raise 0 0 5)
-unfolding computed ciphered
-tagged-A = refl
-
-pub tagged-B : received siteB taggedB outB ≡ took siteB taggedB outB 1 1 (0x77 ∷ []) (raise 0 0 5)
-unfolding computed ciphered
-tagged-B = refl
-
-abbrev pub outA′ : List ℕ
-outA′ = 0x2a ∷ 2 ∷ 3 ∷ replicate 124 0
-
-abbrev pub outB′ : List ℕ
-outB′ = 0x77 ∷ 5 ∷ 6 ∷ replicate 124 0
-
--- the counter stands at 6 now
-pub again-A : received (siteOf keyA 6) taggedA outA′ ≡ outcome (refusal CounterError) (siteOf keyA 6) outA′
-unfolding computed
-again-A = refl
-
-pub again-B : received (siteOf keyB 6) taggedB outB′ ≡ outcome (refusal CounterError) (siteOf keyB 6) outB′
-unfolding computed
-again-B = refl
-
 -- what the cipher makes of it is left as it stands
 abbrev pub text : List ℕ → List ℕ → List ℕ
 text key f = opened key 0xacde480000000002 (view (inner f)) (inner f) .text
 
-pub untagged-A : received (siteOf keyA 6) untaggedA outA′ ≡ took (siteOf keyA 6) untaggedA outA′ 4 1 (text keyA untaggedA) (raise 0 0 6)
+pub untagged-A : received siteA untaggedA outA ≡ took siteA untaggedA outA 4 1 (text keyA untaggedA) (raise 0 0 5)
 unfolding computed
 untagged-A = refl
 
-pub untagged-B : received (siteOf keyB 6) untaggedB outB′ ≡ took (siteOf keyB 6) untaggedB outB′ 4 1 (text keyB untaggedB) (raise 0 0 6)
+pub untagged-B : received siteB untaggedB outB ≡ took siteB untaggedB outB 4 1 (text keyB untaggedB) (raise 0 0 5)
 unfolding computed
 untagged-B = refl
 
@@ -203,10 +173,8 @@ frames-paired =
     (pair siteA siteB strange strange outA outB (drop 2 framesA) (drop 2 framesB) _ _ strange-A strange-B refl refl refl refl
     (pair siteA siteB (spoilt 0) (spoilt 1) outA outB (drop 3 framesA) (drop 3 framesB) _ _ spoilt-A spoilt-B refl refl refl refl
     (pair siteA siteB lateA lateB outA outB (drop 4 framesA) (drop 4 framesB) _ _ late-A late-B refl refl refl refl
-    (pair siteA siteB taggedA taggedB outA outB (drop 5 framesA) (drop 5 framesB) _ _ tagged-A tagged-B refl refl refl refl
-    (pair (siteOf keyA 6) (siteOf keyB 6) taggedA taggedB outA′ outB′ (drop 6 framesA) (drop 6 framesB) _ _ again-A again-B refl refl refl refl
-    (pair (siteOf keyA 6) (siteOf keyB 6) untaggedA untaggedB outA′ outB′ (drop 7 framesA) (drop 7 framesB) _ _ untagged-A untagged-B refl refl refl refl
-    tt))))))
+    (pair siteA siteB untaggedA untaggedB outA outB (drop 5 framesA) (drop 5 framesB) _ _ untagged-A untagged-B refl refl refl refl
+    tt))))
 
 pub they-agree : Agree 0 siteA siteB empty empty framesA framesB
 unfolding Secret
