@@ -1,0 +1,193 @@
+-- A request that is right: what its rules say, and that its header can be written and is well formed. Assumes nothing.
+use mathlib.Core.Path.{_≡_, refl, sym, ap, ap₂, _∙_}
+use mathlib.Core.Logic.{_≢_}
+use Prim.Native.Nat.{ℕ, zero, suc, _+_, _*_, _/_, _%_, _^_, _≤_, _<_}
+use native.Mathlib.Omega.{arith}
+use mathlib.Core.Bool.{Bool, true, false, _&&_, _||_, not}
+use mathlib.Core.List.{List, [], _∷_, _++_}
+use lib.ListN.{length, getD, take, drop}
+use lib.Dec.{eqb, leb, ltb}
+use borrow.Author.Tests.{eqb-true, eqb-false, eq-eqb, ne-eqb, leb-true, le-leb, not-true, not-false}
+use Rattle.meaning.specs.Octets.{pick}
+use Rattle.meaning.specs.Frame.{absent, addressLen, openM, modesRight, compressionRight, shapeRight, headRight, pendingRight}
+use Rattle.meaning.specs.Site.{panId, shortAddress, extendedAddress}
+use Rattle.meaning.specs.Build.{bit, fitted, ownAddress, compresses, headerBy, headOctets, modeRight, fieldsRight, sourceRight, payloadsRight, requestRight}
+use Rattle.meaning.specs.declared.Address.{Address}
+use Rattle.meaning.specs.declared.Cuts.{Cuts}
+use Rattle.meaning.specs.declared.Header.{Header}
+use Rattle.meaning.specs.declared.Request.{Request}
+use Rattle.meaning.proofs.Lists.{and-both}
+use Rattle.meaning.proofs.Numbers.{leAt-lt}
+use Rattle.demands.specs.Round.{Octets, Ranged}
+use Rattle.demands.proofs.Heads.{Carried, Written, head-bare}
+
+-- ---- address modes
+pub data Mode : ℕ → Type 0 where
+  none : Mode 0
+  short : Mode 2
+  long : Mode 3
+
+mode-is : (m : ℕ) → modeRight m ≡ true → Mode m
+unfolding modeRight
+mode-is m e = go (eqb m 0) refl (eqb m 2) refl (eqb m 3) refl e
+  where
+    go : (a : Bool) → eqb m 0 ≡ a → (b : Bool) → eqb m 2 ≡ b → (c : Bool) → eqb m 3 ≡ c → (a || (b || c)) ≡ true → Mode m
+    go true ea b eb c ec h = rw (eqb-true m 0 ea) none
+    go false ea true eb c ec h = rw (eqb-true m 2 eb) short
+    go false ea false eb true ec h = rw (eqb-true m 3 ec) long
+    go false ea false eb false ec h = absurd (let z : _≡_ {A = ℕ} 0 1 = cc in omega arith)
+
+not-one : {m : ℕ} → Mode m → not (eqb m 1) ≡ true
+not-one none = refl
+not-one short = refl
+not-one long = refl
+
+-- ---- what the rules say
+pub record Asked (t : List ℕ) (q : Request) (o p : List ℕ) : Type 0 where
+  pub kind : q .kind ≤ 3
+  pub version : q .version ≤ 1
+  pub level : q .level ≤ 7
+  pub keymode : q .keymode ≤ 3
+  pub legacy : not (eqb (q .version) 0 && not (eqb (q .level) 0)) ≡ true
+  pub destination : Mode (q .destination .mode)
+  pub source : Mode (q .srcmode)
+  pub shape : shapeRight (headerBy t q) 3 ≡ true
+  pub opens : openM (q .kind) o ≡ length o
+  pub pending : pendingRight (q .kind) o ≡ true
+  pub silent : q .kind ≡ 2 → length p ≡ 0
+
+or-right : (a b : Bool) → (not a || b) ≡ true → a ≡ true → b ≡ true
+or-right true b e h = e
+or-right false b e h = absurd (let z : _≡_ {A = ℕ} 0 1 = cc in omega arith)
+
+pub asked : (t : List ℕ) (q : Request) (o p : List ℕ) → requestRight t q o p ≡ true → Asked t q o p
+unfolding requestRight fieldsRight payloadsRight
+asked t q o p e =
+    let modes : Bool = modeRight (q .destination .mode) && modeRight (q .srcmode) in
+    let modern : Bool = not (eqb (q .version) 0 && not (eqb (q .level) 0)) in
+    let silence : Bool = pendingRight (q .kind) o && (not (eqb (q .kind) 2) || eqb (length p) 0) in
+    let shaped : Bool = shapeRight (headerBy t q) 3 && payloadsRight (q .kind) o p in
+    let a = and-both (fieldsRight q) (sourceRight t (q .srcmode) && shaped) e in
+    let b = and-both (sourceRight t (q .srcmode)) shaped (a .1) in
+    let c = and-both (shapeRight (headerBy t q) 3) (payloadsRight (q .kind) o p) (b .1) in
+    let f = and-both (leb (q .kind) 3) (leb (q .version) 1 && (leb (q .level) 7 && (leb (q .keymode) 3 && (modern && modes)))) (a .0) in
+    let g = and-both (leb (q .version) 1) (leb (q .level) 7 && (leb (q .keymode) 3 && (modern && modes))) (f .1) in
+    let h = and-both (leb (q .level) 7) (leb (q .keymode) 3 && (modern && modes)) (g .1) in
+    let i = and-both (leb (q .keymode) 3) (modern && modes) (h .1) in
+    let j = and-both modern modes (i .1) in
+    let k = and-both (modeRight (q .destination .mode)) (modeRight (q .srcmode)) (j .1) in
+    let l = and-both (eqb (openM (q .kind) o) (length o)) silence (c .1) in
+    let m = and-both (pendingRight (q .kind) o) (not (eqb (q .kind) 2) || eqb (length p) 0) (l .1) in
+    record {
+      kind = leb-true (q .kind) 3 (f .0);
+      version = leb-true (q .version) 1 (g .0);
+      level = leb-true (q .level) 7 (h .0);
+      keymode = leb-true (q .keymode) 3 (i .0);
+      legacy = j .0;
+      destination = mode-is (q .destination .mode) (k .0);
+      source = mode-is (q .srcmode) (k .1);
+      shape = c .0;
+      opens = eqb-true (openM (q .kind) o) (length o) (l .0);
+      pending = m .0;
+      silent = λ z. eqb-true (length p) 0 (or-right (eqb (q .kind) 2) (eqb (length p) 0) (m .1) (eq-eqb (q .kind) 2 z));
+    }
+
+-- ---- its addresses
+carried-absent : Carried absent
+unfolding addressLen
+carried-absent = record { none = λ e. refl; mode = omega arith; pan = omega arith; address = omega arith }
+
+carried-short : (p a : ℕ) → p < 256 ^ 2 → a < 256 ^ 2 → Carried (record { mode = 2; pan = p; address = a })
+unfolding addressLen
+carried-short p a hp ha = record { none = λ e. absurd (omega arith); mode = omega arith; pan = hp; address = ha }
+
+carried-long : (p a : ℕ) → p < 256 ^ 2 → a < 256 ^ 8 → Carried (record { mode = 3; pan = p; address = a })
+unfolding addressLen
+carried-long p a hp ha = record { none = λ e. absurd (omega arith); mode = omega arith; pan = hp; address = ha }
+
+carried-fitted : {m : ℕ} (p a : ℕ) → p < 256 ^ 2 → a < 256 ^ 8 → Mode m → Carried (fitted (record { mode = m; pan = p; address = a }))
+unfolding fitted
+carried-fitted p a hp ha none = carried-absent
+carried-fitted p a hp ha short = carried-short p (a % 65536) hp (omega arith)
+carried-fitted p a hp ha long = carried-long p a hp ha
+
+fitted-mode : {m : ℕ} (p a : ℕ) → Mode m → fitted (record { mode = m; pan = p; address = a }) .mode ≡ m
+unfolding fitted
+fitted-mode p a none = refl
+fitted-mode p a short = refl
+fitted-mode p a long = refl
+
+carried-own : (t : List ℕ) {m : ℕ} → Octets t → Mode m → Carried (ownAddress t m)
+unfolding ownAddress Octets panId shortAddress extendedAddress
+carried-own t h none = carried-absent
+carried-own t h short = carried-short _ _ (leAt-lt t h 2 0) (leAt-lt t h 2 2)
+carried-own t h long = carried-long _ _ (leAt-lt t h 2 0) (leAt-lt t h 8 4)
+
+own-mode : (t : List ℕ) {m : ℕ} → Mode m → ownAddress t m .mode ≡ m
+unfolding ownAddress
+own-mode t none = refl
+own-mode t short = refl
+own-mode t long = refl
+
+-- ---- its header
+bit-lt : (b : Bool) → bit b < 2
+bit-lt true = omega arith
+bit-lt false = omega arith
+
+bit-on : (b : Bool) → bit b ≡ 1 → b ≡ true
+bit-on true e = refl
+bit-on false e = absurd (omega arith)
+
+-- compression: both addresses stand and the PANs agree
+both : (d s : Address) → compresses d s ≡ true → (not (eqb (d .mode) 0) ≡ true) × (not (eqb (s .mode) 0) ≡ true) × (d .pan ≡ s .pan)
+unfolding compresses
+both d s e =
+    let a = and-both (not (eqb (d .mode) 0)) (not (eqb (s .mode) 0) && eqb (d .pan) (s .pan)) e in
+    let b = and-both (not (eqb (s .mode) 0)) (eqb (d .pan) (s .pan)) (a .1) in
+    (a .0, b .0, eqb-true (d .pan) (s .pan) (b .1))
+
+module _ (t : List ℕ) (q : Request) (o p : List ℕ) (r : Ranged q) (ot : Octets t) (a : Asked t q o p) where
+  -- it can be written
+  pub written : Written (headerBy t q)
+  unfolding headerBy
+  written = record {
+    kind = omega arith;
+    security = bit-lt (not (eqb (q .level) 0));
+    pending = bit-lt (q .pending);
+    request = bit-lt (q .request);
+    compression = bit-lt (compresses (fitted (q .destination)) (ownAddress t (q .srcmode)));
+    version = omega arith;
+    destination = carried-fitted (q .destination .pan) (q .destination .address) (r .pan) (r .address) (a .destination);
+    source = carried-own t ot (a .source);
+    shared = λ e.
+      let b = both (fitted (q .destination)) (ownAddress t (q .srcmode)) (bit-on _ e) in
+      (eqb-false _ _ (not-true _ (b .0)), b .2);
+  }
+
+  modes-right : modesRight (headerBy t q) ≡ true
+  unfolding modesRight headerBy
+  modes-right =
+      rw (fitted-mode (q .destination .pan) (q .destination .address) (a .destination), own-mode t (a .source), not-one (a .destination), not-one (a .source))
+
+  compression-right : compressionRight (headerBy t q) ≡ true
+  unfolding compressionRight headerBy
+  compression-right = go (compresses (fitted (q .destination)) (ownAddress t (q .srcmode))) refl
+    where
+      go : (c : Bool) → compresses (fitted (q .destination)) (ownAddress t (q .srcmode)) ≡ c
+          → (eqb (bit c) 0 || (not (eqb (fitted (q .destination) .mode) 0) && not (eqb (ownAddress t (q .srcmode) .mode) 0))) ≡ true
+      go false e = refl
+      go true e = let b = both (fitted (q .destination)) (ownAddress t (q .srcmode)) e in rw (b .0, b .1)
+
+  -- an acknowledgment: no addresses, no level
+  record Bare : Type 0 where
+    destination : headerBy t q .destination .mode ≡ 0
+    source : headerBy t q .source .mode ≡ 0
+    level : q .level ≡ 0
+
+  bare : q .kind ≡ 2 → Bare
+  bare e = ?
+
+  -- well formed at a size n
+  pub head-right : (c : Cuts) (n : ℕ) → c .head ≤ n → (q .kind ≡ 2 → n ≡ 3) → headRight c (headerBy t q) n ≡ true
+  unfolding headRight
+  head-right c n l e = rw (le-leb (c .head) n l, modes-right, compression-right) ?
