@@ -1,5 +1,10 @@
 pub mod Tests
 pub mod Scan
 pub mod Lists
+pub mod Tabs
+pub mod Stores
+pub mod Same
+pub mod Numbers
 pub mod Frame
 pub mod Order
+pub mod Ways

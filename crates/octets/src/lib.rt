@@ -1,6 +1,6 @@
 // Octets of a slice as numbers, and back; copying; comparing. Reading past the end gives 0, as the definitions say.
 ghost use mathlib.Core.Path.{_≡_};
-ghost use Prim.Native.Nat.{_+_, _*_, _≤_, _<_};
+ghost use Prim.Native.Nat.{_+_, _*_, _^_, _≤_};
 ghost use lib.ListN.{length, getD};
 ghost use lib.Seq.{sets};
 ghost use Rattle.meaning.specs.Octets.{leAt, octs, same};
@@ -12,6 +12,7 @@ pub fn octet(s: &[u8], at: usize) -> u8
     if at < s.len() { s[at] } else { 0 }
 }
 
+// The octet as a size.
 pub fn wide(x: u8) -> usize
     ensures { λ r. ⌜ r ≡ x ⌝ }
 {
@@ -38,7 +39,7 @@ fn join64(a: u32, b: u32) -> u64
 
 // The number in two octets from a place on, least first.
 pub fn number16(s: &[u8], at: usize) -> u16
-    requires { ⌜ at < 4294967296 ⌝ }
+    requires { ⌜ at + 2 ≤ 2 ^ 64 ⌝ }
     ensures { λ r. ⌜ r ≡ leAt 2 (now (s .entry)) at ⌝ }
 {
     join16(octet(s, at), octet(s, at + 1))
@@ -46,21 +47,27 @@ pub fn number16(s: &[u8], at: usize) -> u16
 
 // The number in four octets.
 pub fn number32(s: &[u8], at: usize) -> u32
-    requires { ⌜ at < 4294967296 ⌝ }
+    requires { ⌜ at + 4 ≤ 2 ^ 64 ⌝ }
     ensures { λ r. ⌜ r ≡ leAt 4 (now (s .entry)) at ⌝ }
 {
-    join32(
-        join16(octet(s, at), octet(s, at + 1)),
-        join16(octet(s, at + 2), octet(s, at + 3)),
-    )
+    join32(number16(s, at), number16(s, at + 2))
 }
 
 // The number in eight octets.
 pub fn number64(s: &[u8], at: usize) -> u64
-    requires { ⌜ at < 4294967296 ⌝ }
+    requires { ⌜ at + 8 ≤ 2 ^ 64 ⌝ }
     ensures { λ r. ⌜ r ≡ leAt 8 (now (s .entry)) at ⌝ }
 {
     join64(number32(s, at), number32(s, at + 4))
+}
+
+// Stores a number's two octets from a place on, least first; all other octets stay.
+pub fn put16(s: &mut [u8], at: usize, v: u16)
+    requires { ⌜ at + 2 ≤ length (now s) ⌝ }
+    ensures { λ _. ⌜ now (s .exit) ≡ sets (now (s .entry)) at (octs 2 v) ⌝ }
+{
+    s[at] = (v % 256) as u8;
+    s[at + 1] = (v / 256) as u8;
 }
 
 // Stores a number's four octets from a place on, least first; all other octets stay.
@@ -68,13 +75,17 @@ pub fn put32(s: &mut [u8], at: usize, v: u32)
     requires { ⌜ at + 4 ≤ length (now s) ⌝ }
     ensures { λ _. ⌜ now (s .exit) ≡ sets (now (s .entry)) at (octs 4 v) ⌝ }
 {
-    let v1 = v / 256;
-    let v2 = v1 / 256;
-    let v3 = v2 / 256;
-    s[at] = (v % 256) as u8;
-    s[at + 1] = (v1 % 256) as u8;
-    s[at + 2] = (v2 % 256) as u8;
-    s[at + 3] = (v3 % 256) as u8;
+    put16(s, at, (v % 65536) as u16);
+    put16(s, at + 2, (v / 65536) as u16);
+}
+
+// Stores a number's eight octets from a place on, least first; all other octets stay.
+pub fn put64(s: &mut [u8], at: usize, v: u64)
+    requires { ⌜ at + 8 ≤ length (now s) ⌝ }
+    ensures { λ _. ⌜ now (s .exit) ≡ sets (now (s .entry)) at (octs 8 v) ⌝ }
+{
+    put32(s, at, (v % 4294967296) as u32);
+    put32(s, at + 4, (v / 4294967296) as u32);
 }
 
 // Stores all of src from a place on; all other octets stay.
