@@ -138,6 +138,33 @@ bit-on : (b : Bool) → bit b ≡ 1 → b ≡ true
 bit-on true e = refl
 bit-on false e = absurd (omega arith)
 
+bit-off : (b : Bool) → bit (not b) ≡ 0 → b ≡ true
+bit-off true e = refl
+bit-off false e = absurd (omega arith)
+
+-- the shape of an acknowledgment asks for its size, any other shape not
+shape-any : (h : Header) (n : ℕ) → (h .kind ≡ 2 → n ≡ 3) → shapeRight h 3 ≡ true → shapeRight h n ≡ true
+unfolding shapeRight
+shape-any h n e s = go (eqb (h .kind) 2) refl s
+  where
+    go : (t : Bool) → eqb (h .kind) 2 ≡ t
+        → pick (eqb (h .kind) 0) (eqb (h .destination .mode) 0 && not (eqb (h .source .mode) 0))
+          (pick t (eqb (h .destination .mode) 0 && (eqb (h .source .mode) 0 && (eqb (h .security) 0 && eqb 3 3)))
+          (pick (leb (h .kind) 3) (not (eqb (h .destination .mode) 0) || not (eqb (h .source .mode) 0)) true)) ≡ true
+        → pick (eqb (h .kind) 0) (eqb (h .destination .mode) 0 && not (eqb (h .source .mode) 0))
+          (pick t (eqb (h .destination .mode) 0 && (eqb (h .source .mode) 0 && (eqb (h .security) 0 && eqb n 3)))
+          (pick (leb (h .kind) 3) (not (eqb (h .destination .mode) 0) || not (eqb (h .source .mode) 0)) true)) ≡ true
+    go true k z = rw (e (eqb-true (h .kind) 2 k)) z
+    go false k z = z
+
+shape-bare : (h : Header) → h .kind ≡ 2 → shapeRight h 3 ≡ true → (h .destination .mode ≡ 0) × (h .source .mode ≡ 0) × (h .security ≡ 0)
+unfolding shapeRight
+shape-bare h e s =
+    let a = and-both (eqb (h .destination .mode) 0) (eqb (h .source .mode) 0 && (eqb (h .security) 0 && eqb 3 3)) (rw e at s) in
+    let b = and-both (eqb (h .source .mode) 0) (eqb (h .security) 0 && eqb 3 3) (a .1) in
+    let c = and-both (eqb (h .security) 0) (eqb 3 3) (b .1) in
+    (eqb-true (h .destination .mode) 0 (a .0), eqb-true (h .source .mode) 0 (b .0), eqb-true (h .security) 0 (c .0))
+
 -- compression: both addresses stand and the PANs agree
 both : (d s : Address) → compresses d s ≡ true → (not (eqb (d .mode) 0) ≡ true) × (not (eqb (s .mode) 0) ≡ true) × (d .pan ≡ s .pan)
 unfolding compresses
@@ -164,6 +191,10 @@ module _ (t : List ℕ) (q : Request) (o p : List ℕ) (r : Ranged q) (ot : Octe
       (eqb-false _ _ (not-true _ (b .0)), b .2);
   }
 
+  by-kind : (n : ℕ) → (q .kind ≡ 2 → n ≡ 3) → headerBy t q .kind ≡ 2 → n ≡ 3
+  unfolding headerBy
+  by-kind n e = e
+
   modes-right : modesRight (headerBy t q) ≡ true
   unfolding modesRight headerBy
   modes-right =
@@ -178,16 +209,18 @@ module _ (t : List ℕ) (q : Request) (o p : List ℕ) (r : Ranged q) (ot : Octe
       go false e = refl
       go true e = let b = both (fitted (q .destination)) (ownAddress t (q .srcmode)) e in rw (b .0, b .1)
 
-  -- an acknowledgment: no addresses, no level
-  record Bare : Type 0 where
-    destination : headerBy t q .destination .mode ≡ 0
-    source : headerBy t q .source .mode ≡ 0
-    level : q .level ≡ 0
-
-  bare : q .kind ≡ 2 → Bare
-  bare e = ?
-
   -- well formed at a size n
   pub head-right : (c : Cuts) (n : ℕ) → c .head ≤ n → (q .kind ≡ 2 → n ≡ 3) → headRight c (headerBy t q) n ≡ true
   unfolding headRight
-  head-right c n l e = rw (le-leb (c .head) n l, modes-right, compression-right) ?
+  head-right c n l e = rw (le-leb (c .head) n l, modes-right, compression-right) (shape-any (headerBy t q) n (by-kind n e) (a .shape))
+
+  -- an acknowledgment has no level, and its header 3 octets
+  pub bare-level : q .kind ≡ 2 → q .level ≡ 0
+  unfolding headerBy
+  bare-level e = eqb-true (q .level) 0 (bit-off (eqb (q .level) 0) (shape-bare (headerBy t q) e (a .shape) .2))
+
+  pub bare-head : q .kind ≡ 2 → length (headOctets (headerBy t q)) ≡ 3
+  unfolding headerBy
+  bare-head e =
+      let b = shape-bare (headerBy t q) e (a .shape) in
+      head-bare (headerBy t q) written (b .0) (b .1)

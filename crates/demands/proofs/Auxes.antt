@@ -25,6 +25,11 @@ source-8 m = go (eqb m 2) (eqb m 3)
     go false true = omega arith
     go false false = omega arith
 
+-- at level 0 there is none
+pub aux-none : (q : Request) (c : ℕ) → q .level ≡ 0 → auxOctets q c ≡ []
+unfolding auxOctets
+aux-none q c e = rw e
+
 module _ (q : Request) (c : ℕ) (long : length (q .keysource) ≡ 8) (level : q .level ≤ 7) (keymode : q .keymode ≤ 3) where
   length-id : length (keyIdOctets q) ≡ keyIdLen (q .keymode)
   unfolding keyIdOctets keyIdLen
@@ -35,11 +40,6 @@ module _ (q : Request) (c : ℕ) (long : length (q .keysource) ≡ 8) (level : q
       go false =
           let n : keySourceLen (q .keymode) ≤ length (q .keysource) = omega (arith, source-8 (q .keymode)) in
           length-append (take (keySourceLen (q .keymode)) (q .keysource)) (q .keyindex ∷ []) ∙ rw (length-take-le (keySourceLen (q .keymode)) (q .keysource) n)
-
-  -- at level 0 there is none
-  pub aux-none : q .level ≡ 0 → auxOctets q c ≡ []
-  unfolding auxOctets
-  aux-none e = rw e
 
   aux-some : q .level ≢ 0 → auxOctets q c ≡ (q .level + 8 * q .keymode) ∷ (octs 4 c ++ keyIdOctets q)
   unfolding auxOctets
@@ -74,10 +74,10 @@ module _ (q : Request) (c : ℕ) (long : length (q .keysource) ≡ 8) (level : q
 
 -- its length does not depend on the counter
 pub aux-long : (q : Request) (c : ℕ) → length (auxOctets q c) ≡ length (auxOctets q 0)
-unfolding auxOctets
+unfolding auxOctets octs
 aux-long q c = go (eqb (q .level) 0)
   where
     go : (t : Bool) → length (pick t [] ((q .level + 8 * q .keymode) ∷ (octs 4 c ++ keyIdOctets q)))
         ≡ length (pick t [] ((q .level + 8 * q .keymode) ∷ (octs 4 0 ++ keyIdOctets q)))
     go true = refl
-    go false = ap suc (length-append (octs 4 c) (keyIdOctets q) ∙ rw (length-octs 4 c, ← length-octs 4 0) (sym (length-append (octs 4 0) (keyIdOctets q))))
+    go false = refl

@@ -150,6 +150,9 @@ module _ (h : Header) (w : Written h) where
   unfolding headM headOctets
   head-measured = rw (destination-len (h .sequence ∷ []), source-len (h .sequence ∷ [])) (omega (arith, length-head))
 
+  pub head-least : 3 ≤ length (headOctets h)
+  head-least = omega (arith, length-head)
+
   -- with no address it has 3 octets
   pub head-bare : h .destination .mode ≡ 0 → h .source .mode ≡ 0 → length (headOctets h) ≡ 3
   head-bare d e =
