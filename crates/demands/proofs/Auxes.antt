@@ -14,7 +14,7 @@ use Rattle.meaning.specs.Frame.{levelOf, modeOf, counterOf, keySourceLen, keyId
 use Rattle.meaning.specs.Build.{bit, keyIdOctets, auxOctets}
 use Rattle.meaning.specs.declared.Request.{Request}
 use Rattle.meaning.proofs.Numbers.{length-octs}
-use Rattle.demands.proofs.Heads.{stands-at}
+use Rattle.demands.proofs.Addresses.{stands-at}
 
 source-8 : (m : ℕ) → keySourceLen m ≤ 8
 unfolding keySourceLen

@@ -4,17 +4,17 @@ use mathlib.Core.Logic.{_≢_}
 use Prim.Native.Nat.{ℕ, zero, suc, _+_, _*_, _/_, _%_, _-_, _^_, _≤_, _<_}
 use native.Mathlib.Omega.{arith}
 use mathlib.Core.Bool.{Bool, true, false, _&&_, _||_, not}
-use mathlib.Core.List.{List, [], _∷_, _++_, append-assoc}
+use mathlib.Core.List.{List, [], _∷_, _++_}
 use lib.ListN.{length, getD, take, drop, length-append}
-use lib.Seq.{take-at, drop-at, drop-drop}
+use lib.Seq.{take-at, drop-at}
 use lib.Dec.{eqb, leb, ltb}
 use borrow.Author.Tests.{le-leb, eq-eqb}
-use Rattle.meaning.specs.Octets.{pick, part, same}
+use Rattle.meaning.specs.Octets.{same}
 use Rattle.meaning.specs.Frame.{typeOf, securityOf, levelOf, tagLen, headM, auxM, openM, headerOf, View, view, openEnd, privateLen, headRight, bodied, pendingRight}
 use Rattle.meaning.specs.Fcs.{fcs, inner, fcsRight}
 use Rattle.meaning.specs.Site.{Tables, Store}
 use Rattle.meaning.specs.Filter.{cause}
-use Rattle.meaning.specs.Receive.{check, split, onSecurity, onParts, onView, judge, judged, privateOf}
+use Rattle.meaning.specs.Receive.{check, onParts, onView, judge, judged}
 use Rattle.meaning.specs.Build.{bit, headerBy, headOctets, auxOctets, frameLen, withFcs}
 use Rattle.meaning.specs.declared.Refusal.the-variants.{Filtered}
 use Rattle.meaning.specs.declared.Request.{Request}
@@ -23,9 +23,10 @@ use Rattle.meaning.proofs.Numbers.{length-octs}
 use Rattle.meaning.proofs.Frame.{view-joined}
 use Rattle.demands.specs.Round.{Octets, Ranged, admission}
 use Rattle.demands.proofs.Heads.{Written, head-measured, head-least, header-read, type-read, security-read}
-use Rattle.demands.proofs.Asked.{Asked, asked, written, head-right, bare-level, bare-head}
+use Rattle.demands.proofs.Asked.{Asked}
+use Rattle.demands.proofs.Formed.{written, head-right, bare-level, bare-head}
 use Rattle.demands.proofs.Auxes.{aux-none, aux-long, aux-measured, level-read}
-use Rattle.demands.proofs.Made.{sealedSent, bodySent, cipher-long, tag-long, no-tag}
+use Rattle.demands.proofs.Parts.{sealedSent, bodySent, cipher-long, tag-long, no-tag}
 
 -- ---- the FCS behind any octets
 module _ (b : List ℕ) where
@@ -158,35 +159,3 @@ module _ (σ : Store) (q : Request) (o p : List ℕ) (r : Ranged q) (ot : Octets
       rw (inner-with (bodySent σ q o p), right-with (bodySent σ q o p), view-is)
       (judge-whole g room (length (withFcs (bodySent σ q o p))) shown k (omega (arith, length-with (bodySent σ q o p), size-least))
       (omega (arith, length-with (bodySent σ q o p), size-most)) head-is legacy-is bodied-is)
-
-  -- ---- its places
-  regrouped : bodySent σ q o p ≡ (h ++ (x ++ o)) ++ (c ++ t)
-  unfolding bodySent
-  regrouped = simp append-assoc
-
-  front-long : length (h ++ (x ++ o)) ≡ openEnd (shown .cuts)
-  unfolding openEnd shown
-  front-long = simp length-append (omega arith)
-
-  pub front-is : take (openEnd (shown .cuts)) (bodySent σ q o p) ≡ h ++ (x ++ o)
-  front-is = ap (take (openEnd (shown .cuts))) regrouped ∙ take-at (h ++ (x ++ o)) (c ++ t) (openEnd (shown .cuts)) front-long
-
-  rest-is : drop (openEnd (shown .cuts)) (bodySent σ q o p) ≡ c ++ t
-  rest-is = ap (drop (openEnd (shown .cuts))) regrouped ∙ drop-at (h ++ (x ++ o)) (c ++ t) (openEnd (shown .cuts)) front-long
-
-  pub cipher-is : privateOf shown (bodySent σ q o p) ≡ c
-  unfolding privateOf
-  cipher-is = ap (take (privateLen shown)) rest-is ∙ take-at c t (privateLen shown) (cipher-long σ q o p ∙ sym private-is)
-
-  pub tag-is : drop (openEnd (shown .cuts) + privateLen shown) (bodySent σ q o p) ≡ t
-  tag-is =
-      sym (drop-drop (privateLen shown) (openEnd (shown .cuts)) (bodySent σ q o p)) ∙ ap (drop (privateLen shown)) rest-is
-      ∙ drop-at c t (privateLen shown) (cipher-long σ q o p ∙ sym private-is)
-
-  -- the open payload in the whole frame
-  pub opens-is : part (length h + length x) (length o) (withFcs (bodySent σ q o p)) ≡ o
-  unfolding withFcs bodySent
-  opens-is =
-      rw (append-assoc h (x ++ (o ++ (c ++ t))) (fcs (bodySent σ q o p)), append-assoc x (o ++ (c ++ t)) (fcs (bodySent σ q o p)), append-assoc o (c ++ t) (fcs (bodySent σ q o p)),
-        ← append-assoc h x (o ++ ((c ++ t) ++ fcs (bodySent σ q o p))), drop-at (h ++ x) (o ++ ((c ++ t) ++ fcs (bodySent σ q o p))) (length h + length x) (length-append h x))
-      (take-at o ((c ++ t) ++ fcs (bodySent σ q o p)) (length o) refl)

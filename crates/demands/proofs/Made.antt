@@ -1,21 +1,18 @@
--- A build that succeeds: what its checks have found, and the parts of its frame, with and without security at once. Assumes nothing.
-use mathlib.Core.Path.{_≡_, refl, sym, ap, ap₂, _∙_}
+-- A build that succeeds: what its checks have found, and its frame. Assumes nothing.
+use mathlib.Core.Path.{_≡_, refl, ap, _∙_}
 use mathlib.Core.Logic.{_≢_}
-use Prim.Native.Nat.{ℕ, zero, suc, _+_, _*_, _/_, _%_, _-_, _^_, _≤_, _<_}
+use Prim.Native.Nat.{ℕ, _≤_}
 use native.Mathlib.Omega.{arith}
 use mathlib.Core.Bool.{Bool, true, false, _||_}
-use mathlib.Core.List.{List, [], _∷_, _++_, append-nil}
-use lib.ListN.{length, getD, take, drop}
+use mathlib.Core.List.{List}
+use lib.ListN.{length, take, drop}
 use lib.Seq.{take-at}
 use lib.Dec.{eqb, leb, ltb}
-use borrow.Author.Tests.{eqb-true, eqb-false, ne-eqb, leb-true}
+use borrow.Author.Tests.{eqb-true, eqb-false, leb-true}
 use Rattle.meaning.specs.Octets.{pick, beside}
 use Rattle.meaning.specs.Status.{number}
-use Rattle.meaning.specs.Frame.{tagLen}
-use Rattle.meaning.specs.Site.{extendedAddress, securityOn, siteRule, Store, storeOf, keyAt}
-use Rattle.meaning.specs.Steps.{peerOf, keyRow, keyOf}
-use Rattle.meaning.specs.Cipher.{cipher, cipherWith, addRoundKey}
-use Rattle.meaning.specs.Ccm.{Sealed}
+use Rattle.meaning.specs.Site.{extendedAddress, securityOn, siteRule, Store, storeOf}
+use Rattle.meaning.specs.Steps.{peerOf, keyRow}
 use Rattle.meaning.specs.Build.{
   fitted,
   headerBy,
@@ -26,7 +23,6 @@ use Rattle.meaning.specs.Build.{
   refuse,
   frame,
   withFcs,
-  sealing,
   securedBody,
   plainBody,
   frameLen,
@@ -61,60 +57,9 @@ use Rattle.meaning.specs.declared.Refusal.the-variants.{
   InvalidParameter,
 }
 use Rattle.meaning.specs.declared.Request.{Request}
-use Rattle.meaning.proofs.Seals.{length-cipher-text, length-tag}
 use Rattle.demands.proofs.Auxes.{aux-none}
+use Rattle.demands.proofs.Parts.{bodySent, plain-body, secured-body}
 use Rattle.demands.specs.Round.{keyIn, keySent, frameSent}
-
--- ---- the parts
--- what stands for the private payload, and its tag
-unfoldable pub sealedSent : Store → Request → List ℕ → List ℕ → Sealed
-sealedSent σ q o p =
-    pick (eqb (q .level) 0) (record { cipher = p; tag = [] })
-    (sealing (keySent σ q) (extendedAddress (σ .tables .settings)) (σ .own) (q .level)
-    (headOctets (headerBy (σ .tables .settings) q) ++ (auxOctets q (σ .own) ++ o)) p)
-
--- the frame without its FCS
-unfoldable pub bodySent : Store → Request → List ℕ → List ℕ → List ℕ
-bodySent σ q o p =
-    headOctets (headerBy (σ .tables .settings) q)
-    ++ (auxOctets q (σ .own) ++ (o ++ (sealedSent σ q o p .cipher ++ sealedSent σ q o p .tag)))
-
-length-block : (k b : List ℕ) → length (cipher k b) ≡ 16
-unfolding cipher cipherWith addRoundKey
-length-block k b = refl
-
-pub no-tag : tagLen 0 ≡ 0
-unfolding tagLen
-no-tag = refl
-
-module _ (σ : Store) (q : Request) (o p : List ℕ) where
-  pub cipher-long : length (sealedSent σ q o p .cipher) ≡ length p
-  unfolding sealedSent sealing
-  cipher-long = go (eqb (q .level) 0)
-    where
-      go : (t : Bool) → length (pick t (record { cipher = p; tag = [] }) (sealing (keySent σ q) (extendedAddress (σ .tables .settings)) (σ .own) (q .level)
-          (headOctets (headerBy (σ .tables .settings) q) ++ (auxOctets q (σ .own) ++ o)) p) .cipher) ≡ length p
-      go true = refl
-      go false = length-cipher-text (cipher (keySent σ q)) _ (q .level) _ p
-
-  pub tag-long : length (sealedSent σ q o p .tag) ≡ tagLen (q .level)
-  unfolding sealedSent sealing
-  tag-long = go (eqb (q .level) 0) refl
-    where
-      go : (t : Bool) → eqb (q .level) 0 ≡ t → length (pick t (record { cipher = p; tag = [] }) (sealing (keySent σ q) (extendedAddress (σ .tables .settings)) (σ .own) (q .level)
-          (headOctets (headerBy (σ .tables .settings) q) ++ (auxOctets q (σ .own) ++ o)) p) .tag) ≡ tagLen (q .level)
-      go true e = sym (ap tagLen (eqb-true (q .level) 0 e) ∙ no-tag)
-      go false e = length-tag (cipher (keySent σ q)) (length-block (keySent σ q)) _ (q .level) _ p
-
-  plain-body : q .level ≡ 0 → auxOctets q (σ .own) ≡ [] → plainBody (headOctets (headerBy (σ .tables .settings) q)) o p ≡ bodySent σ q o p
-  unfolding plainBody bodySent sealedSent
-  plain-body e x = rw (x, e, append-nil p)
-
-  secured-body : q .level ≢ 0
-      → securedBody (keySent σ q) (extendedAddress (σ .tables .settings)) (σ .own) (q .level)
-        (headOctets (headerBy (σ .tables .settings) q)) (auxOctets q (σ .own)) o p ≡ bodySent σ q o p
-  unfolding securedBody bodySent sealedSent
-  secured-body n = rw (ne-eqb (q .level) 0 n)
 
 -- ---- the checks, read back
 refuse-frame : {A : Type 0} {r : Refusal} {f : List ℕ} {u : Bool} → refuse r ≡ frame f u → A

@@ -1,1 +1,1 @@
-// Demands 2 and 3, as theorems about the meaning: statements in specs/, proofs in proofs/.
+// No code: what the definitions of receiving and building add up to. The statements stand in specs/, the theorems in proofs/.
