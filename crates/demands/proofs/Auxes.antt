@@ -67,6 +67,7 @@ module _ (q : Request) (c : ℕ) (long : length (q .keysource) ≡ 8) (level : q
     where
       mode : (q .level + 8 * q .keymode) / 8 % 4 ≡ q .keymode
       mode = omega arith
+
       go : (t : Bool) → pick (eqb (bit (not t)) 1) (5 + keyIdLen (getD (take 1 (pick t [] ((q .level + 8 * q .keymode) ∷ (octs 4 c ++ keyIdOctets q)))) 0 0 / 8 % 4)) 0
           ≡ length (pick t [] ((q .level + 8 * q .keymode) ∷ (octs 4 c ++ keyIdOctets q)))
       go true = refl

@@ -79,11 +79,11 @@ shape-any h n e s = go (eqb (h .kind) 2) refl s
   where
     go : (t : Bool) → eqb (h .kind) 2 ≡ t
         → pick (eqb (h .kind) 0) (eqb (h .destination .mode) 0 && not (eqb (h .source .mode) 0))
-          (pick t (eqb (h .destination .mode) 0 && (eqb (h .source .mode) 0 && (eqb (h .security) 0 && eqb 3 3)))
-          (pick (leb (h .kind) 3) (not (eqb (h .destination .mode) 0) || not (eqb (h .source .mode) 0)) true)) ≡ true
+        (pick t (eqb (h .destination .mode) 0 && (eqb (h .source .mode) 0 && (eqb (h .security) 0 && eqb 3 3)))
+        (pick (leb (h .kind) 3) (not (eqb (h .destination .mode) 0) || not (eqb (h .source .mode) 0)) true)) ≡ true
         → pick (eqb (h .kind) 0) (eqb (h .destination .mode) 0 && not (eqb (h .source .mode) 0))
-          (pick t (eqb (h .destination .mode) 0 && (eqb (h .source .mode) 0 && (eqb (h .security) 0 && eqb n 3)))
-          (pick (leb (h .kind) 3) (not (eqb (h .destination .mode) 0) || not (eqb (h .source .mode) 0)) true)) ≡ true
+        (pick t (eqb (h .destination .mode) 0 && (eqb (h .source .mode) 0 && (eqb (h .security) 0 && eqb n 3)))
+        (pick (leb (h .kind) 3) (not (eqb (h .destination .mode) 0) || not (eqb (h .source .mode) 0)) true)) ≡ true
     go true k z = rw (e (eqb-true (h .kind) 2 k)) z
     go false k z = z
 
@@ -117,8 +117,8 @@ module _ (t : List ℕ) (q : Request) (o p : List ℕ) (r : Ranged q) (ot : Octe
     destination = carried-fitted (q .destination .pan) (q .destination .address) (r .pan) (r .address) (a .destination);
     source = carried-own t ot (a .source);
     shared = λ e.
-      let b = both (fitted (q .destination)) (ownAddress t (q .srcmode)) (bit-on _ e) in
-      (eqb-false _ _ (not-true _ (b .0)), b .2);
+        let b = both (fitted (q .destination)) (ownAddress t (q .srcmode)) (bit-on _ e) in
+        (eqb-false _ _ (not-true _ (b .0)), b .2);
   }
 
   by-kind : (n : ℕ) → (q .kind ≡ 2 → n ≡ 3) → headerBy t q .kind ≡ 2 → n ≡ 3

@@ -35,6 +35,7 @@ source-octets h = go (eqb (h .compression) 1)
     bare : (t : Bool) → eqb (h .source .mode) 0 ≡ t → length (addressOctets (h .source)) ≡ pick t 0 (0 + addressLen (h .source .mode))
     bare true e = let z : h .source .mode ≡ 0 = eqb-true (h .source .mode) 0 e in address-len (h .source) ∙ ap addressLen z ∙ no-address
     bare false e = omega (arith, address-len (h .source))
+
     go : (t : Bool) → length (pick t (addressOctets (h .source)) (placedOctets (h .source)))
         ≡ pick (eqb (h .source .mode) 0) 0 (pick t 0 2 + addressLen (h .source .mode))
     go true = bare (eqb (h .source .mode) 0) refl
@@ -135,9 +136,9 @@ module _ (h : Header) (w : Written h) where
     where
       go : (t : Bool) → eqb (h .compression) 1 ≡ t
           → pick t
-            (addressAt (before ++ pick t (addressOctets (h .source)) (placedOctets (h .source))) (h .source .mode) 3 (3 + length (placedOctets (h .destination))))
-            (addressAt (before ++ pick t (addressOctets (h .source)) (placedOctets (h .source))) (h .source .mode) (3 + length (placedOctets (h .destination))) (5 + length (placedOctets (h .destination))))
-            ≡ h .source
+          (addressAt (before ++ pick t (addressOctets (h .source)) (placedOctets (h .source))) (h .source .mode) 3 (3 + length (placedOctets (h .destination))))
+          (addressAt (before ++ pick t (addressOctets (h .source)) (placedOctets (h .source))) (h .source .mode) (3 + length (placedOctets (h .destination))) (5 + length (placedOctets (h .destination))))
+          ≡ h .source
       go true e = shared-read (eqb-true (h .compression) 1 e)
       go false e = own-read
 

@@ -9,3 +9,4 @@ pub mod Frames
 pub mod Places
 pub mod Verdict
 pub mod Round
+pub mod Witness

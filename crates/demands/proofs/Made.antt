@@ -120,32 +120,43 @@ module _ (σ : Store) (q : Request) (o p : List ℕ) (f : List ℕ) (u : Bool) w
     where
       t : List ℕ
       t = σ .tables .settings
+
       row : Found
       row = keyRow (σ .tables .lookups) t (q .keymode) (q .keyindex) (q .keysource) (peerOf t (fitted (q .destination)))
+
       way : Made
       way = pick (eqb (q .level) 0) (frame (withFcs (plainBody (headOctets (headerBy t q)) o p)) false) (onCounter σ q o p)
+
       long : Made
       long = pick (leb (frameLen t q o p) 127) way (refuse FrameTooLong)
+
       secure : Made
       secure = pick (eqb (q .level) 0 || securityOn t) long (refuse UnsupportedSecurity)
+
       a : (ltb room 127 ≡ false) × (pick (requestRight t q o p) secure (refuse InvalidParameter) ≡ frame f u)
       a = unbarred (ltb room 127) Room (pick (requestRight t q o p) secure (refuse InvalidParameter)) f u e
+
       b : (requestRight t q o p ≡ true) × (secure ≡ frame f u)
       b = passed (requestRight t q o p) secure InvalidParameter f u (a .1)
+
       c : ((eqb (q .level) 0 || securityOn t) ≡ true) × (long ≡ frame f u)
       c = passed (eqb (q .level) 0 || securityOn t) long UnsupportedSecurity f u (b .1)
+
       d : (leb (frameLen t q o p) 127 ≡ true) × (way ≡ frame f u)
       d = passed (leb (frameLen t q o p) 127) way FrameTooLong f u (c .1)
+
       counted : q .level ≢ 0 → pick (eqb (σ .own) 0xffff_ffff) (refuse CounterError) (onLookup σ q o p row) ≡ frame f u
           → (q .level ≢ 0 → σ .own ≢ 0xffff_ffff) × (f ≡ withFcs (bodySent σ q o p))
       counted n z =
           let g = unbarred (eqb (σ .own) 0xffff_ffff) CounterError (onLookup σ q o p row) f u z in
           (λ l. eqb-false (σ .own) 0xffff_ffff (g .0), on-lookup row (g .1) ∙ ap withFcs (secured-body σ q o p n))
+
       plain : q .level ≡ 0 → frame (withFcs (plainBody (headOctets (headerBy t q)) o p)) false ≡ frame f u
           → (q .level ≢ 0 → σ .own ≢ 0xffff_ffff) × (f ≡ withFcs (bodySent σ q o p))
       plain z w =
           let g : f ≡ withFcs (plainBody (headOctets (headerBy t q)) o p) = cc in
           (λ n. absurd (n z), g ∙ ap withFcs (plain-body σ q o p z (aux-none q (σ .own) z)))
+
       go : (l : Bool) → eqb (q .level) 0 ≡ l → pick l (frame (withFcs (plainBody (headOctets (headerBy t q)) o p)) false) (onCounter σ q o p) ≡ frame f u
           → (q .level ≢ 0 → σ .own ≢ 0xffff_ffff) × (f ≡ withFcs (bodySent σ q o p))
       go true l z = plain (eqb-true (q .level) 0 l) z

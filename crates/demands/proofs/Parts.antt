@@ -63,6 +63,6 @@ module _ (σ : Store) (q : Request) (o p : List ℕ) where
 
   pub secured-body : q .level ≢ 0
       → securedBody (keySent σ q) (extendedAddress (σ .tables .settings)) (σ .own) (q .level)
-        (headOctets (headerBy (σ .tables .settings) q)) (auxOctets q (σ .own)) o p ≡ bodySent σ q o p
+      (headOctets (headerBy (σ .tables .settings) q)) (auxOctets q (σ .own)) o p ≡ bodySent σ q o p
   unfolding securedBody bodySent sealedSent
   secured-body n = rw (ne-eqb (q .level) 0 n)

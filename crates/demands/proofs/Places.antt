@@ -61,6 +61,11 @@ module _ (σ : Store) (q : Request) (o p : List ℕ) (r : Ranged q) (ot : Octets
   pub opens-is : part (length h + length x) (length o) (withFcs (bodySent σ q o p)) ≡ o
   unfolding withFcs bodySent
   opens-is =
-      rw (append-assoc h (x ++ (o ++ (c ++ t))) (fcs (bodySent σ q o p)), append-assoc x (o ++ (c ++ t)) (fcs (bodySent σ q o p)), append-assoc o (c ++ t) (fcs (bodySent σ q o p)),
-        ← append-assoc h x (o ++ ((c ++ t) ++ fcs (bodySent σ q o p))), drop-at (h ++ x) (o ++ ((c ++ t) ++ fcs (bodySent σ q o p))) (length h + length x) (length-append h x))
+      rw (
+        append-assoc h (x ++ (o ++ (c ++ t))) (fcs (bodySent σ q o p)),
+        append-assoc x (o ++ (c ++ t)) (fcs (bodySent σ q o p)),
+        append-assoc o (c ++ t) (fcs (bodySent σ q o p)),
+        ← append-assoc h x (o ++ ((c ++ t) ++ fcs (bodySent σ q o p))),
+        drop-at (h ++ x) (o ++ ((c ++ t) ++ fcs (bodySent σ q o p))) (length h + length x) (length-append h x),
+      )
       (take-at o ((c ++ t) ++ fcs (bodySent σ q o p)) (length o) refl)

@@ -63,8 +63,11 @@ module _ (s : List ℕ) (q : Request) (o p out r out′ : List ℕ) (g : Judged)
       ≡ outcome (reportOf (storeOf s) q o p g) (raisedIn (raiseOf (storeOf s .own) g) r) (beside p out′)
   unfolding received receivedValid write
   whole =
-      rw (t .site, m .is,
-        verdict-is (storeOf s) q o p (frameSent s q o p out) (z .ranged) ot (own-small s (z .octets)) m (storeOf r) (length out′) g (t .room) admitted-is (t .agreed))
+      rw (
+        t .site,
+        m .is,
+        verdict-is (storeOf s) q o p (frameSent s q o p out) (z .ranged) ot (own-small s (z .octets)) m (storeOf r) (length out′) g (t .room) admitted-is (t .agreed),
+      )
 
   long : length (frameSent s q o p out) ≡ length (bodySent (storeOf s) q o p) + 2
   long = ap length (m .is) ∙ length-with (bodySent (storeOf s) q o p)

@@ -4,9 +4,11 @@ use mathlib.Core.Logic.{_≢_}
 use Prim.Native.Nat.{ℕ, suc, _^_, _≤_, _<_}
 use mathlib.Core.Bool.{true}
 use mathlib.Core.List.{List, _++_}
+use lib.ListN.{getD}
 use borrow.Author.Tests.{eqb-true, ne-eqb, le-leb}
 use Rattle.meaning.specs.Frame.{levelOf, counterOf, View}
-use Rattle.meaning.specs.Site.{extendedAddress, Tables, Store}
+use Rattle.meaning.specs.Site.{extendedAddress, Tables, Store, keyAt}
+use Rattle.meaning.specs.Steps.{noDevice}
 use Rattle.meaning.specs.Cipher.{cipher}
 use Rattle.meaning.specs.Ccm.{nonceOf, Sealed}
 use Rattle.meaning.specs.Receive.{report, stored, timely, accept, opened, tagged, admit, settle, verdict}
@@ -71,8 +73,15 @@ module _ (σ : Store) (q : Request) (o p f : List ℕ) (r : Ranged q) (ot : Octe
   opened-is : q .level ≢ 0 → opened (keySent σ q) (extendedAddress (σ .tables .settings)) v b ≡ record { right = true; text = p }
   unfolding opened F.shown sealing
   opened-is n =
-      rw (P.front-is σ q o p r ot a (m .fits), P.cipher-is σ q o p r ot a (m .fits), P.tag-is σ q o p r ot a (m .fits), counter-is n, level-is,
-        ap (λ (y : Sealed). y .cipher) (sealed-is n), ap (λ (y : Sealed). y .tag) (sealed-is n))
+      rw (
+        P.front-is σ q o p r ot a (m .fits),
+        P.cipher-is σ q o p r ot a (m .fits),
+        P.tag-is σ q o p r ot a (m .fits),
+        counter-is n,
+        level-is,
+        ap (λ (y : Sealed). y .cipher) (sealed-is n),
+        ap (λ (y : Sealed). y .tag) (sealed-is n),
+      )
       (opens-again (cipher (keySent σ q)) (nonceOf (extendedAddress (σ .tables .settings)) (σ .own) (q .level)) (q .level) front p)
 
   -- ---- the report
@@ -94,7 +103,10 @@ module _ (σ : Store) (q : Request) (o p f : List ℕ) (r : Ranged q) (ot : Octe
       rw (P.cipher-is σ q o p r ot a (m .fits), plain-is e, plain-report e)
   settle-is τ y (securely {k} {j} {d} w) =
       let n : q .level ≢ 0 = came-secure y refl in
-      rw (w .key, w .extended, opened-is n, counter-is n, timely-is (stored (τ .counters) j d) (σ .own) (w .counter) (m .fresh n), secure-report k j d n)
+      let key : keyAt (τ .keys) k ≡ keySent σ q = w .key in
+      let extended : getD (τ .tables .devices) d noDevice .extended ≡ extendedAddress (σ .tables .settings) = w .extended in
+      let counter : stored (τ .counters) j d ≤ σ .own = w .counter in
+      rw (key, extended, opened-is n, counter-is n, timely-is (stored (τ .counters) j d) (σ .own) counter (m .fresh n), secure-report k j d n)
 
   pub verdict-is : (τ : Store) (room : ℕ) (g : Judged) → 127 ≤ room → admission (τ .tables) (headerBy (σ .tables .settings) q) x o ≡ g → Agreed σ τ q g
       → verdict τ room (withFcs b) ≡ accept (reportOf σ q o p g) p (raiseOf (σ .own) g)

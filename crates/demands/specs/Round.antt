@@ -108,7 +108,7 @@ reportOf σ q o p g =
 pub record Comes-back (s : List ℕ) (q : Request) (o p out r out′ : List ℕ) (g : Judged) : Type 0 where
   -- header and private payload, and nothing else changes but the device's counter
   pub whole : received r (frameSent s q o p out) out′
-    ≡ outcome (reportOf (storeOf s) q o p g) (raisedIn (raiseOf (storeOf s .own) g) r) (beside p out′)
+      ≡ outcome (reportOf (storeOf s) q o p g) (raisedIn (raiseOf (storeOf s .own) g) r) (beside p out′)
   -- the open payload, as a part of the frame
   pub opens : part (reportOf (storeOf s) q o p g .start) (reportOf (storeOf s) q o p g .len) (frameSent s q o p out) ≡ o
   pub least : 5 ≤ length (frameSent s q o p out)
