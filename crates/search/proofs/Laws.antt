@@ -1,12 +1,12 @@
 -- What is found lies in its table; the searches over the devices by their octets; the key lookup by the source compared. Assumes nothing.
 use mathlib.Core.Path.{_≡_, refl, ap, sym, _∙_, subst}
 use mathlib.Core.Bool.{Bool, true, false, _&&_}
-use mathlib.Core.List.{List, [], _∷_, _++_}
-use Prim.Native.Nat.{ℕ, zero, suc, _+_, _*_, _/_, _-_, _≤_, _<_}
+use mathlib.Core.List.{List, _++_}
+use Prim.Native.Nat.{ℕ, zero, suc, _+_, _*_, _-_, _≤_, _<_}
 use native.Mathlib.Omega.{arith}
 use native.Mathlib.Nat.{min-le-left}
 use lib.ListN.{length, getD, take, drop, length-take, length-append}
-use lib.Seq.{sets, length-take-le, take-at, take-append-add}
+use lib.Seq.{sets, take-at, take-append-add}
 use lib.Dec.{eqb}
 use Rattle.meaning.specs.Octets.{pick, scan, first, octs, stands, tab}
 use Rattle.meaning.specs.Frame.{addressLen, keySourceLen}
@@ -160,7 +160,6 @@ take-octs k m n h =
 pub record Lent (r : List ℕ) (n : ℕ) (p : Address) : Type 0 where
   pub few : 2 + n ≤ 10
   pub room : 2 + n ≤ length r
-  pub long : length (take (2 + n) r) ≡ 2 + n
   pub same : take (2 + n) r ≡ peerOctets p
 
 pub lent : (r : List ℕ) (n : ℕ) (p : Address) → r ≡ octs 2 (p .pan) ++ octs 8 (p .address) → n ≡ addressLen (p .mode) → Lent r n p
@@ -173,7 +172,6 @@ lent r n p e d =
     record {
       few = omega arith;
       room = omega arith;
-      long = length-take-le (2 + n) r (omega arith);
       same =
           ap (take (2 + n)) e
           ∙ ap (λ (j : ℕ). take (j + n) (a ++ b)) (sym (length-octs 2 (p .pan)))
