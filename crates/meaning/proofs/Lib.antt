@@ -13,3 +13,4 @@ pub mod Order
 pub mod Ways
 pub mod Ccm
 pub mod Sites
+pub mod Kept
