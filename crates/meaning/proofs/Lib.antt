@@ -1,4 +1,5 @@
 pub mod Tests
+pub mod Joined
 pub mod Scan
 pub mod Lists
 pub mod Tabs
@@ -6,5 +7,6 @@ pub mod Stores
 pub mod Same
 pub mod Numbers
 pub mod Frame
+pub mod Lengths
 pub mod Order
 pub mod Ways

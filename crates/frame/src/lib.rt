@@ -1,0 +1,17 @@
+// Dividing a frame (standard 5.2, 7.4), its header and security header, the security levels and the filter.
+// No function changes what it is lent; reading past the end of a slice gives 0, as the definitions say.
+// Clients cite specs/Frame.antt, Filter.antt and Steps.antt of the meaning; openPayload is of specs/Parts.antt here.
+mod control;
+mod division;
+mod filter;
+mod header;
+mod levels;
+mod parts;
+mod security;
+
+pub use division::{body_fits, cuts, level_in, pending_right};
+pub use filter::cause;
+pub use header::{header_right, read_header};
+pub use levels::{Level, at_least, tag_len};
+pub use parts::{open_payload, part_of};
+pub use security::{counter_of, key_index, key_source, level_of, mode_of};
