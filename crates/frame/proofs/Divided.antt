@@ -6,7 +6,8 @@ use Prim.Native.Nat.{ℕ, _+_, _-_, _≤_, _<_}
 use native.Mathlib.Omega.{arith}
 use lib.ListN.{length, take, drop, length-drop, drop-of-length-le}
 use lib.Seq.{take-all, take-nil}
-use lib.Dec.{leb, ltb}
+use lib.Dec.{leb}
+use borrow.Author.Tests.{le-leb, lt-leb}
 use Rattle.meaning.specs.Octets.{pick, part}
 use Rattle.meaning.specs.Frame.{
   headerOf,
@@ -31,10 +32,12 @@ pub part-none : (s : List ℕ) (at n : ℕ) → length s ≤ at → _≡_ {A = L
 part-none s at n h = rw (drop-of-length-le s h, take-nil n)
 
 -- what is there, where more is asked
-pub part-rest : (s : List ℕ) (at n : ℕ) → length s - at ≤ n → drop at s ≡ part at n s
-part-rest s at n h = sym (take-all n (drop at s) (rw (length-drop at s) h))
+pub part-rest : (s : List ℕ) (at n : ℕ) → length s - at ≤ n → take (length s - at) (drop at s) ≡ part at n s
+part-rest s at n h =
+    take-all (length s - at) (drop at s) (rw (length-drop at s) (omega arith)) ∙ sym (take-all n (drop at s) (rw (length-drop at s) h))
 
-abbrev whole : List ℕ → Cuts → Header → Bool
+-- status 5 does not refuse b, divided by the cuts c, with the header h
+abbrev pub whole : List ℕ → Cuts → Header → Bool
 whole b c h =
     headRight c h (length b)
     && (leb (openEnd c + tagLen (levelOf (part (c .head) (c .aux) b))) (length b)
@@ -46,3 +49,17 @@ divided-is b = rw (head-is b, aux-is b, opens-is b)
 
 pub divided-by : (b : List ℕ) (c : Cuts) (h : Header) (z : Bool) → c ≡ cutsOf b → h ≡ headerOf (part 0 (c .head) b) → z ≡ whole b c h → z ≡ divided b
 divided-by b c h z e g w = w ∙ sym (divided-is b ∙ rw (g, e))
+
+pub opens-by : (b : List ℕ) (c : Cuts) (z : List ℕ) → c ≡ cutsOf b → z ≡ part (c .head + c .aux) (c .opens) b → z ≡ view b .opens
+unfolding view
+opens-by b c z e g = g ∙ rw e (sym (opens-is b))
+
+-- the open octets and the tag beside a size
+module _ (c : Cuts) (l n : ℕ) where
+  pub fits : c .head + c .aux + c .opens + tagLen l ≤ n → true ≡ leb (openEnd c + tagLen l) n
+  unfolding openEnd
+  fits h = sym (le-leb _ n h)
+
+  pub fits-not : n < c .head + c .aux + c .opens + tagLen l → false ≡ leb (openEnd c + tagLen l) n
+  unfolding openEnd
+  fits-not h = sym (lt-leb _ n h)

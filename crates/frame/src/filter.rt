@@ -2,6 +2,8 @@
 use meaning::{Address, Header};
 
 ghost use mathlib.Core.Path.{_≡_};
+ghost use mathlib.Core.Bool.{not, _&&_};
+ghost use lib.Dec.{eqb};
 ghost use Rattle.meaning.specs.Site.{panId, shortAddress, extendedAddress, isCoordinator};
 ghost use Rattle.meaning.specs.Filter.{strangePan, strangeShort, strangeExtended, strangeBeacon, strangeSource, cause};
 
@@ -73,30 +75,39 @@ pub fn strange_beacon(settings: &[u8], h: Header) -> bool
     if h.kind != 0 {
         return false;
     }
-    if from.pan == pan_id(settings) {
+    let pan = pan_id(settings);
+    if from.pan == pan {
         return false;
     }
-    pan_id(settings) != 0xffff
+    pan != 0xffff
 }
 
-// Data or a command without destination is not for us: we are no PAN coordinator, or its source PAN is another.
-pub fn strange_source(settings: &[u8], h: Header) -> bool
-    ensures { λ r. ⌜ r ≡ strangeSource (now (settings .entry)) h ⌝ }
+// Nobody here is meant: there is no destination, and we are no PAN coordinator or the source PAN is another.
+pub fn strange_origin(settings: &[u8], h: Header) -> bool
+    ensures { λ r. ⌜ r ≡ (eqb (h .destination .mode) 0 && not (isCoordinator (now (settings .entry)) && eqb (h .source .pan) (panId (now (settings .entry))))) ⌝ }
 {
     let to = h.destination;
     let from = h.source;
-    if h.kind != 1 {
-        if h.kind != 3 {
-            return false;
-        }
-    }
     if to.mode != 0 {
         return false;
     }
-    if !is_coordinator(settings) {
-        return true;
+    if is_coordinator(settings) {
+        return from.pan != pan_id(settings);
     }
-    from.pan != pan_id(settings)
+    true
+}
+
+// Data or a command is meant for nobody here.
+pub fn strange_source(settings: &[u8], h: Header) -> bool
+    ensures { λ r. ⌜ r ≡ strangeSource (now (settings .entry)) h ⌝ }
+{
+    if h.kind == 1 {
+        return strange_origin(settings, h);
+    }
+    if h.kind == 3 {
+        return strange_origin(settings, h);
+    }
+    false
 }
 
 // The number of the first rule that drops a header, 0 where none does.

@@ -14,8 +14,13 @@ on-or a b z h e = rw h e
 pub off-or : (a b z : Bool) → a ≡ false → z ≡ b → z ≡ (a || b)
 off-or a b z h e = rw h e
 
--- a callee's result u, which its contract says is t
-pub said : (t u v : Bool) → u ≡ t → u ≡ v → t ≡ v
-said t u v d h = sym d ∙ h
+-- the same where the test is a callee's result u, which its contract says is a
+pub on-and-by : (a u b z : Bool) → u ≡ a → u ≡ true → z ≡ b → z ≡ (a && b)
+on-and-by a u b z d h e = on-and a b z (sym d ∙ h) e
+
+pub off-and-by : (a u b z : Bool) → u ≡ a → u ≡ false → z ≡ false → z ≡ (a && b)
+off-and-by a u b z d h e = off-and a b z (sym d ∙ h) e
 
 pub ruleset joined = (on-and, off-and, on-or, off-or)
+
+pub ruleset joined-calls = (on-and-by, off-and-by)

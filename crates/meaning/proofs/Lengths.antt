@@ -183,3 +183,7 @@ pub record Bounded (c : Cuts) : Type 0 where
 pub cuts-bound : (b : List ℕ) → Bounded (cutsOf b)
 unfolding cutsOf divide cutAux cutOpen
 cuts-bound b = record { head = head-bound b; aux = aux-bound _ _; opens = open-bound _ _ }
+
+-- the same of the cuts that a callee found
+pub bounded : (b : List ℕ) (c : Cuts) → c ≡ cutsOf b → Bounded c
+bounded b c e = rw e (cuts-bound b)

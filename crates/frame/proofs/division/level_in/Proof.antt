@@ -12,7 +12,7 @@ unfolding levelOf
 returns c = rw (c .if1 .taken)
 
 returns-2 : tie.Need-returns-2
-returns-2 c = rw (c .octet .ensures) (sym (level-at _ _ _ (c .before .if1 .left)))
+returns-2 c = let a = c .before .before .before .before .args in rw (c .octet .ensures) (sym (level-at (a .body .now) (a .c .head) (a .c .aux) (c .before .if1 .left)))
 
 pub level-in-spec : {M : Type 1} → statement M
 level-in-spec = tie.close (tie.spec returns (λ c κs. search needs) returns-2)

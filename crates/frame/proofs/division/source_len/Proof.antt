@@ -4,6 +4,7 @@ use Rattle.meaning.proofs.Tests.{tests, compared}
 use Rattle.meaning.proofs.Lengths.{address-bound}
 use native.Mathlib.Omega.{arith}
 use Rattle.meaning.specs.Frame.{sourceLen}
+use borrow.Author.Tests.{eq-eqb, ne-eqb}
 use native.Mathlib.Nat.{zero-add}
 use Rattle.frame.proofs.division.source_len.Statement.{statement}
 use Rattle.frame.proofs.division.source_len.Tie as tie

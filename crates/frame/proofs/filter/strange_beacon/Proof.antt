@@ -16,14 +16,7 @@ returns-2 c = rw (← c .before .before .pan-id .ensures) (search (joined, bools
 
 returns-3 : tie.Need-returns-3
 unfolding strangeBeacon
-returns-3 c = rw (← c .pan-id2 .ensures) (search (joined, bools) depth 9)
+returns-3 c = rw (← c .before .before .pan-id .ensures) (search (joined, bools) depth 9)
 
 pub strange-beacon-spec : {M : Type 1} → statement M
-strange-beacon-spec =
-    tie.close
-    (tie.spec
-    returns
-    (λ c κs. search needs)
-    returns-2
-    (λ c κs. search needs)
-    returns-3)
+strange-beacon-spec = tie.close (tie.spec returns (λ c κs. search needs) returns-2 returns-3)
