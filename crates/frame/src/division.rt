@@ -1,9 +1,12 @@
 // Where a frame without its FCS is divided, and the rules of status 5 on what follows the header.
-use meaning::Cuts;
-use crate::control::{compression_of, destination_mode, security_of, source_mode, type_of};
+use crate::control::compression_of;
+use crate::control::destination_mode;
+use crate::control::security_of;
+use crate::control::source_mode;
+use crate::control::type_of;
 use crate::levels::tag_len;
 use crate::security::key_id_len;
-
+use meaning::Cuts;
 ghost use mathlib.Core.Path.{_≡_};
 ghost use Prim.Native.Nat.{_+_, _^_, _<_};
 ghost use lib.ListN.{drop};

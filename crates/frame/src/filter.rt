@@ -1,6 +1,6 @@
 // The filter, a function for each of its rules.
-use meaning::{Address, Header};
-
+use meaning::Address;
+use meaning::Header;
 ghost use mathlib.Core.Path.{_≡_};
 ghost use mathlib.Core.Bool.{not, _&&_};
 ghost use lib.Dec.{eqb};

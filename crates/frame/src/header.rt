@@ -1,8 +1,16 @@
 // The header's fields, and the header's half of status 5.
-use meaning::{Address, Cuts, Header};
-use crate::control::{compression_of, destination_mode, pending_of, request_of, security_of, source_mode, type_of, version_of};
+use crate::control::compression_of;
+use crate::control::destination_mode;
+use crate::control::pending_of;
+use crate::control::request_of;
+use crate::control::security_of;
+use crate::control::source_mode;
+use crate::control::type_of;
+use crate::control::version_of;
 use crate::division::destination_len;
-
+use meaning::Address;
+use meaning::Cuts;
+use meaning::Header;
 ghost use mathlib.Core.Path.{_≡_};
 ghost use Prim.Native.Nat.{_^_, _<_};
 ghost use Rattle.meaning.specs.Octets.{leAt};

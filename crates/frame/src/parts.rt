@@ -1,7 +1,10 @@
 // Parts of what is lent, given back without copying.
-use crate::division::{body_fits, cuts, level_in, pending_right};
-use crate::header::{header_right, read_header};
-
+use crate::division::body_fits;
+use crate::division::cuts;
+use crate::division::level_in;
+use crate::division::pending_right;
+use crate::header::header_right;
+use crate::header::read_header;
 ghost use mathlib.Core.Path.{_≡_};
 ghost use Rattle.meaning.specs.Octets.{part};
 ghost use Rattle.frame.specs.Parts.{divided, openPayload};

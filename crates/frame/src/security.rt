@@ -1,6 +1,5 @@
 // The security header, which starts at its slice's first octet.
 use crate::parts::part_of;
-
 ghost use mathlib.Core.Path.{_≡_};
 ghost use lib.ListN.{drop};
 ghost use Rattle.meaning.specs.Frame.{levelOf, modeOf, counterOf, keySourceLen, keyIdLen, keyIndexOf};

@@ -2,11 +2,17 @@ pub mod Tests
 pub mod Joined
 pub mod Scan
 pub mod Lists
+pub mod Computed
+pub mod Xor
 pub mod Tabs
 pub mod Stores
 pub mod Same
 pub mod Numbers
+pub mod Sums
 pub mod Frame
 pub mod Lengths
 pub mod Order
 pub mod Ways
+pub mod Ccm
+pub mod Sites
+pub mod Kept

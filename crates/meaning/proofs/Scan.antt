@@ -1,12 +1,13 @@
 -- Laws of `first`: how far a search has come, for a loop's invariant.
-use mathlib.Core.Path.{_≡_, refl, ap, sym, _∙_}
+use mathlib.Core.Path.{_≡_, refl, ap, ap₂, sym, _∙_}
 use mathlib.Core.Bool.{Bool, true, false, not}
 use Prim.Native.Nat.{ℕ, zero, suc, _+_, _-_, _≤_, _<_}
 use native.Mathlib.Nat.{sub-zero}
 use native.Mathlib.Numerals.{add-one}
 use native.Mathlib.Decide.{decLe}
 use native.Mathlib.Omega.{arith}
-use Rattle.meaning.specs.Octets.{pick, scan, first, every}
+use borrow.Author.Tests.{not-false}
+use Rattle.meaning.specs.Octets.{pick, scan, first, every, some}
 
 -- the places below i failed, so the search of n places is that of those from i on
 pub record Passed {A : Type 0} (p : ℕ → Bool) (hit : ℕ → A) (none : A) (n i : ℕ) : Type 0 where
@@ -53,16 +54,41 @@ pub first-all : {A : Type 0} (P : A → Type 0) (p : ℕ → Bool) (hit : ℕ �
     → ((k : ℕ) → k < n → p k ≡ true → P (hit k)) → P none → P (first p hit none n)
 first-all P p hit none n h z = scan-all P p hit none n 0 (λ k l. h k (omega arith)) z
 
--- ---- every
-all-from : (p : ℕ → Bool) (m i : ℕ) → scan (λ j. not (p j)) (λ j. false) true m i ≡ true → (k : ℕ) → k < i + m → i ≤ k → p k ≡ true
-all-from p zero i e k a b = absurd (omega arith)
-all-from p (suc m) i e k a b =
-    here (p i) refl (decLe k i) (λ q l. all-from p m (suc i) (rw q at e) k (omega arith) l)
+-- ---- every and some
+-- two tests that agree below n give one answer
+scan-same : {A : Type 0} (p q : ℕ → Bool) (hit : ℕ → A) (none : A) (n i : ℕ)
+    → ((k : ℕ) → k < i + n → p k ≡ q k) → scan p hit none n i ≡ scan q hit none n i
+scan-same p q hit none zero i h = refl
+scan-same {A = A} p q hit none (suc n) i h =
+    ap₂ (λ (t : Bool) (r : A). pick t (hit i) r) (h i (omega arith)) (scan-same p q hit none n (suc i) (λ k l. h k (omega arith)))
+
+pub first-same : {A : Type 0} (p q : ℕ → Bool) (hit : ℕ → A) (none : A) (n : ℕ)
+    → ((k : ℕ) → k < n → p k ≡ q k) → first p hit none n ≡ first q hit none n
+first-same p q hit none n h = scan-same p q hit none n 0 (λ k l. h k (omega arith))
+
+pub every-same : (p q : ℕ → Bool) (n : ℕ) → ((k : ℕ) → k < n → p k ≡ q k) → every p n ≡ every q n
+every-same p q n h = first-same (λ k. not (p k)) (λ k. not (q k)) (λ k. false) true n (λ k l. ap not (h k l))
+
+pub some-same : (p q : ℕ → Bool) (n : ℕ) → ((k : ℕ) → k < n → p k ≡ q k) → some p n ≡ some q n
+some-same p q n h = first-same p q (λ k. true) false n h
+
+-- where the answer is none's, and no hit's, no place passes
+none-from : {A : Type 0} (p : ℕ → Bool) (x none : A) → (x ≡ none → ⊥) → (m i : ℕ) → scan p (λ j. x) none m i ≡ none
+    → (k : ℕ) → k < i + m → i ≤ k → p k ≡ false
+none-from p x none d zero i e k a b = absurd (omega arith)
+none-from p x none d (suc m) i e k a b =
+    here (p i) refl (decLe k i) (λ q l. none-from p x none d m (suc i) (rw q at e) k (omega arith) l)
   where
-    here : (t : Bool) → p i ≡ t → Dec (k ≤ i) → (p i ≡ true → suc i ≤ k → p k ≡ true) → p k ≡ true
-    here true q (yes z) f = let y : k ≡ i = omega arith in ap p y ∙ q
-    here true q (no z) f = f q (omega arith)
-    here false q d f = absurd (let z : false ≡ true = rw q at e in let y : _≡_ {A = ℕ} 0 1 = cc in omega arith)
+    here : (t : Bool) → p i ≡ t → Dec (k ≤ i) → (p i ≡ false → suc i ≤ k → p k ≡ false) → p k ≡ false
+    here false q (yes z) f = let y : k ≡ i = omega arith in ap p y ∙ q
+    here false q (no z) f = f q (omega arith)
+    here true q w f = absurd (d (rw q at e))
 
 pub every-at : (p : ℕ → Bool) (n : ℕ) → every p n ≡ true → (k : ℕ) → k < n → p k ≡ true
-every-at p n h k l = all-from p n 0 h k (omega arith) (omega arith)
+every-at p n h k l =
+    not-false (p k)
+    (none-from (λ j. not (p j)) false true (λ e. let y : _≡_ {A = ℕ} 0 1 = cc in omega arith) n 0 h k (omega arith) (omega arith))
+
+pub none-at : (p : ℕ → Bool) (n : ℕ) → some p n ≡ false → (k : ℕ) → k < n → p k ≡ false
+none-at p n h k l =
+    none-from p true false (λ e. let y : _≡_ {A = ℕ} 0 1 = cc in omega arith) n 0 h k (omega arith) (omega arith)

@@ -1,0 +1,12 @@
+pub mod Addresses
+pub mod Heads
+pub mod Asked
+pub mod Formed
+pub mod Auxes
+pub mod Parts
+pub mod Made
+pub mod Frames
+pub mod Places
+pub mod Verdict
+pub mod Round
+pub mod Witness
