@@ -10,3 +10,4 @@ pub mod Places
 pub mod Verdict
 pub mod Round
 pub mod Witness
+pub mod Borders
