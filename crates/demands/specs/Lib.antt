@@ -1,1 +1,3 @@
+pub mod Round
+pub mod Borders
 pub mod Secrecy
