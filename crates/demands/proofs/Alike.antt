@@ -164,6 +164,24 @@ alike-counters s t a = by (siteRule s) refl
     by true e = counters-same s t e a
     by false e = ap (λ (r : List ℕ). storeOf r .counters) (alike-broken s t e a)
 
+-- the key octets stand at the same places in both
+keys-same : (s t : List ℕ) → AlikeSites s t → (keysAt t ≡ keysAt s) × (keysLen t ≡ keysLen s)
+keys-same s t a = by (siteRule s) refl
+  where
+    by : (c : Bool) → siteRule s ≡ c → (keysAt t ≡ keysAt s) × (keysLen t ≡ keysLen s)
+    by true e =
+        let h = alike-contents s t e a in (
+          keys-at t (alike-rule s t e a) ∙ sym (place-same s t h 3 (omega arith)) ∙ sym (keys-at s e),
+          keys-len t (alike-rule s t e a) ∙ ap (λ (n : ℕ). 16 * n) (sym (count-same s t h 3 (omega arith))) ∙ sym (keys-len s e),
+        )
+    by false e = let h = alike-broken s t e a in (ap keysAt (sym h), ap keysLen (sym h))
+
+-- so it is the same which of the two is named first
+pub alike-back : (s t : List ℕ) → AlikeSites s t → AlikeSites t s
+alike-back s t a =
+    let k = keys-same s t a in
+    record { lengths = sym (a .lengths); before = rw (k .0) (sym (a .before)); after = rw (k .0, k .1) (sym (a .after)) }
+
 -- ---- one counter raised in both
 module _ (s t : List ℕ) (rule : siteRule s ≡ true) (a : AlikeSites s t) (j d c : ℕ) (there : d < countOf s 1) where
   at : ℕ

@@ -17,3 +17,5 @@ pub mod Refusals
 pub mod Unique
 pub mod Computing
 pub mod Pairs
+pub mod Symmetric
+pub mod Useless

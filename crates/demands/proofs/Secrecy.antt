@@ -161,10 +161,11 @@ near-settle σ τ v n b b′ (Secure k j d) c l l′ h e =
     (opened-long _ _ v b l) (opened-long _ _ v b′ l′) (h k j d refl))
 
 -- ---- what both write
-record Standing (m : ℕ) (s t o p : List ℕ) : Type 0 where
-  sites : AlikeSites s t
-  rooms : length o ≡ length p
-  outs : drop m o ≡ drop m p
+-- two receivers between frames: m is the longest private payload accepted so far
+pub record Standing (m : ℕ) (s t o p : List ℕ) : Type 0 where
+  pub sites : AlikeSites s t
+  pub rooms : length o ≡ length p
+  pub outs : drop m o ≡ drop m p
 
 kept-both : (s t : List ℕ) → AlikeSites s t → AlikeSites (raisedIn keep s) (raisedIn keep t)
 unfolding raisedIn
@@ -237,7 +238,7 @@ unfolding judged storeOf
 judged-same s t f g o p et l c ev r = rw (et, l, c, ev, r)
 
 module _ (m : ℕ) (s t f g o p : List ℕ) (st : Standing m s t o p) (a : AlikeFrames s t f g o p) where
-  same-view : view (inner f) ≡ view (inner g)
+  pub same-view : view (inner f) ≡ view (inner g)
   unfolding outside
   same-view = view-alike f g (a .lengths) (received s f o .answer .status) (a .octets)
 
@@ -273,7 +274,7 @@ module _ (m : ℕ) (s t f g o p : List ℕ) (st : Standing m s t o p) (a : Alike
       rw (as-broken s f o e, as-broken t g p (ap siteRule (sym (alike-broken s t e (st .sites))) ∙ e))
       (both-refuse m s t f g o p Site st)
 
-  one : Agreed (max m (received s f o .answer .private)) f g (received s f o) (received t g p)
+  pub one : Agreed (max m (received s f o .answer .private)) f g (received s f o) (received t g p)
   one = by (siteRule s) refl
     where
       by : (c : Bool) → siteRule s ≡ c → Agreed (max m (received s f o .answer .private)) f g (received s f o) (received t g p)
