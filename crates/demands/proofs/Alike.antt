@@ -20,6 +20,7 @@ use Rattle.meaning.specs.Site.{
   recordsRight,
   siteRule,
   counterAt,
+  ownCounter,
   settingsOf,
   Tables,
   tablesOf,
@@ -156,7 +157,29 @@ module _ (s t : List ℕ) (rule : siteRule s ≡ true) (a : AlikeSites s t) wher
   unfolding storeOf
   counters-same = ap₂ (λ (b : List ℕ) (n : ℕ). tab (counterAt b) n) (body-before 1 (omega arith)) (count-same s t alike-contents 1 (omega arith))
 
+  own-same : storeOf s .own ≡ storeOf t .own
+  unfolding storeOf
+  own-same = ap ownCounter (body-before 0 (omega arith))
+
+  settings-same : storeOf s .tables .settings ≡ storeOf t .tables .settings
+  unfolding storeOf
+  settings-same = ap (λ (r : Tables). r .settings) alike-tables
+
 -- ---- whether they hold the rules or not
+pub alike-own : (s t : List ℕ) → AlikeSites s t → storeOf s .own ≡ storeOf t .own
+alike-own s t a = by (siteRule s) refl
+  where
+    by : (c : Bool) → siteRule s ≡ c → storeOf s .own ≡ storeOf t .own
+    by true e = own-same s t e a
+    by false e = ap (λ (r : List ℕ). storeOf r .own) (alike-broken s t e a)
+
+pub alike-settings : (s t : List ℕ) → AlikeSites s t → storeOf s .tables .settings ≡ storeOf t .tables .settings
+alike-settings s t a = by (siteRule s) refl
+  where
+    by : (c : Bool) → siteRule s ≡ c → storeOf s .tables .settings ≡ storeOf t .tables .settings
+    by true e = settings-same s t e a
+    by false e = ap (λ (r : List ℕ). storeOf r .tables .settings) (alike-broken s t e a)
+
 pub alike-counters : (s t : List ℕ) → AlikeSites s t → storeOf s .counters ≡ storeOf t .counters
 alike-counters s t a = by (siteRule s) refl
   where

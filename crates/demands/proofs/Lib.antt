@@ -19,3 +19,4 @@ pub mod Computing
 pub mod Pairs
 pub mod Symmetric
 pub mod Useless
+pub mod Honest

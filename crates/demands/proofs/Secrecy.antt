@@ -86,7 +86,7 @@ span-cases : (status : ℕ) (f : List ℕ)
 unfolding span
 span-cases status f = picked (eqb status 0) (leb status 3) (leb status 7) _ _ _
 
-span-open : (status : ℕ) (f : List ℕ) → status ≡ 0 → span status f ≡ openEnd (cutsOf (inner f))
+pub span-open : (status : ℕ) (f : List ℕ) → status ≡ 0 → span status f ≡ openEnd (cutsOf (inner f))
 unfolding span
 span-open status f e = rw e
 
