@@ -1,11 +1,15 @@
 pub mod Tests
 pub mod Scan
 pub mod Lists
+pub mod Computed
+pub mod Xor
 pub mod Tabs
 pub mod Stores
 pub mod Same
 pub mod Numbers
+pub mod Sums
 pub mod Frame
 pub mod Order
 pub mod Ways
+pub mod Ccm
 pub mod Sites

@@ -4,9 +4,12 @@ use Prim.Native.Nat.{ℕ, zero, suc, _+_, _*_, _/_, _%_, _-_, _≤_, _<_, _^_}
 use native.Mathlib.Nat.{div-lt-iff-lt-mul, div-div-eq-div-mul, div-add-mod, pow-suc, pow-succ'}
 use native.Mathlib.Omega.{arith}
 use mathlib.Core.List.{List, [], _∷_, _++_, append-nil}
+use mathlib.Core.Bool.{Bool, true, false}
+use lib.Dec.{eqb}
 use lib.ListN.{length, getD, take, drop, List·getD-append}
 use lib.Seq.{sets, getD-drop, getD-take, getD-append-add, drop-cons}
-use Rattle.meaning.specs.Octets.{leAt, octs, part}
+use Rattle.meaning.specs.Octets.{leAt, octs, part, same}
+use Rattle.meaning.proofs.Same.{eqb-true, apart, same-of, same-not}
 use Rattle.meaning.proofs.Stores.{getD-before, getD-after, getD-in}
 
 pub length-octs : (k n : ℕ) → length (octs k n) ≡ k
@@ -67,6 +70,17 @@ unfolding octs
 octs-lt zero n i = omega arith
 octs-lt (suc k) n zero = omega arith
 octs-lt (suc k) n (suc i) = octs-lt k (n / 256) i
+
+-- two numbers have the same octets where they are equal
+pub same-octs : (k m n : ℕ) → m < 256 ^ k → n < 256 ^ k → same (octs k m) (octs k n) ≡ eqb m n
+same-octs k m n hm hn = go (eqb m n) refl
+  where
+    back : octs k m ≡ octs k n → m ≡ n
+    back e = sym (leAt-octs k m [] hm) ∙ ap (λ (r : List ℕ). leAt k (r ++ []) 0) e ∙ leAt-octs k n [] hn
+
+    go : (t : Bool) → eqb m n ≡ t → same (octs k m) (octs k n) ≡ eqb m n
+    go true e = same-of (octs k m) (octs k n) (ap (octs k) (eqb-true m n e)) ∙ sym e
+    go false e = same-not (octs k m) (octs k n) (λ q. apart m n e (back q)) ∙ sym e
 
 -- a number of octets is small, and they are its octets
 module _ (s : List ℕ) (small : (i : ℕ) → getD s i 0 < 256) where

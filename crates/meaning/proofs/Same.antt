@@ -13,10 +13,10 @@ use borrow.Author.Tests.{eq-eqb, ne-eqb}
 use Rattle.meaning.specs.Octets.{same}
 use Rattle.meaning.proofs.Lists.{and-both, same-self}
 
-eqb-true : (a b : ℕ) → eqb a b ≡ true → a ≡ b
+pub eqb-true : (a b : ℕ) → eqb a b ≡ true → a ≡ b
 eqb-true a b e = eqb→eq a b (rw e tt)
 
-apart : (a b : ℕ) → eqb a b ≡ false → a ≡ b → ⊥
+pub apart : (a b : ℕ) → eqb a b ≡ false → a ≡ b → ⊥
 apart a b e h = let z : true ≡ false = sym (eq-eqb a b h) ∙ e in let y : _≡_ {A = ℕ} 0 1 = cc in omega arith
 
 pub same-eq : (x y : List ℕ) → same x y ≡ true → x ≡ y

@@ -37,6 +37,7 @@ use Rattle.meaning.specs.Frame.{
 use Rattle.meaning.specs.Site.{records, Tables, securityOn}
 use Rattle.meaning.specs.Steps.{levelRow, deviceRow, keyRow, keyOf, handleRow, handleOf, passes, overrides, lookupRow, peerOf, noDevice}
 use Rattle.meaning.specs.Filter.{cause}
+use Rattle.meaning.specs.Room.{Fits}
 use Rattle.meaning.specs.Receive.{
   check,
   try,
@@ -187,12 +188,6 @@ module _ (t : Tables) (h : Header) (x o : List ℕ) where
       (λ c. to-plain (eqb-true (levelOf x) 0 (or-one (eqb (levelOf x) 0) _ b c)))))
 
 -- ---- the frame: what an acceptance has room for
-pub record Fits (room : ℕ) (f : List ℕ) : Type 0 where
-  pub room-is : 127 ≤ room
-  pub least : 5 ≤ length f
-  pub most : length f ≤ 127
-  pub body : openEnd (cutsOf (inner f)) + tagLen (levelOf (view (inner f) .aux)) ≤ length (inner f)
-
 -- without security there is no security header
 no-aux : (s : ℕ) (l : List ℕ) → s ≡ 0 → auxM s l ≡ 0
 unfolding auxM

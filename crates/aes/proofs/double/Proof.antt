@@ -1,5 +1,6 @@
+-- `aes::double` meets its contract: a test of all 256 octets. Assumes nothing.
 use borrow.Author.Needs.{needs}
-use Prim.Native.Nat.{ℕ, _*_, _/_, _%_, _^_}
+use Prim.Native.Nat.{_*_, _/_, _%_}
 use lib.Bits.{bitXor}
 use Rattle.meaning.specs.Field.{xtime}
 use Rattle.aes.proofs.Octet.{same}

@@ -1,9 +1,10 @@
+-- `aes::encrypt_with` meets its contract: after i turns the state is that after i whole rounds. Assumes nothing.
 use mathlib.Core.Path.{_≡_, refl}
-use Prim.Native.Nat.{ℕ, _-_, _≤_}
+use Prim.Native.Nat.{_-_, _≤_}
 use native.Mathlib.Omega.{arith}
 use borrow.Author.Needs.{needs}
 use lib.Dec.{lit≤}
-use Rattle.meaning.specs.Cipher.{rounds, cipherWith}
+use Rattle.meaning.specs.Cipher.{rounds}
 use Rattle.aes.specs.Schedule.{cipherBy}
 use Rattle.aes.proofs.Rounds.{state-more, finish}
 use Rattle.aes.proofs.encrypt_with.Statement.{statement}

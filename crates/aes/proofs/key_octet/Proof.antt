@@ -1,3 +1,4 @@
+-- `aes::key_octet` meets its contract: one law for each of the three cases. Assumes nothing.
 use Rattle.aes.proofs.Expansion.{first, middle, last}
 use borrow.Author.Needs.{needs}
 use Rattle.aes.proofs.key_octet.Statement.{statement}

@@ -1,3 +1,4 @@
+-- `aes::mix` meets its contract: {02} doubles, and {03} doubles and adds. Assumes nothing.
 use borrow.Author.Needs.{needs}
 use Rattle.aes.proofs.Field.{two, three}
 use Rattle.aes.proofs.mix.Statement.{statement}

@@ -1,13 +1,10 @@
+-- `aes::mix_columns` meets its contract: sixteen octets, each by what `mix` ensures. Assumes nothing.
 use lib.Dec.{lit<}
 use Rattle.aes.proofs.Sixteen.{sixteen}
 use Rattle.meaning.specs.Cipher.{mixColumns}
 use Rattle.aes.proofs.mix_columns.Statement.{statement}
 use Rattle.aes.proofs.mix_columns.Tie as tie
-use Rattle.aes.proofs.mix_columns.Reads as reads
-use Rattle.aes.proofs.mix_columns.Lts as lts
-use Rattle.aes.proofs.mix.Reads as mix-reads
 
--- src/lib.rt:101:1
 returns : tie.Need-returns
 unfolding mixColumns
 returns c =

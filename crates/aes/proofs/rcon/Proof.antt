@@ -1,4 +1,5 @@
-use mathlib.Core.List.{List, [], _∷_}
+-- `aes::rcon` meets its contract: a test of all ten. Assumes nothing.
+use mathlib.Core.List.{[], _∷_}
 use lib.ListN.{getD}
 use Rattle.meaning.specs.Field.{xtime}
 use Rattle.meaning.specs.Cipher.{power}

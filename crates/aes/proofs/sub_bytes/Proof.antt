@@ -1,14 +1,12 @@
-use mathlib.Core.Path.{_≡_, refl, sym, ap, ap₂, _∙_}
-use mathlib.Core.List.{List}
-use Prim.Native.Nat.{ℕ, _+_, _-_, _*_, _≤_, _<_}
+-- `aes::sub_bytes` meets its contract: after i turns the first i octets are put through the S-box. Assumes nothing.
+use mathlib.Core.Path.{_≡_, refl}
+use Prim.Native.Nat.{_-_, _≤_}
 use native.Mathlib.Omega.{arith}
 use borrow.Author.Needs.{needs}
-use lib.Bits.{bitXor}
 use lib.Dec.{lit≤}
-use lib.ListN.{length, getD, take, drop, set, length-set}
-use lib.Seq.{getD-take, getD-drop}
+use lib.ListN.{getD}
 use Rattle.meaning.specs.Sbox.{sbox}
-use Rattle.meaning.specs.Cipher.{subBytes, addRoundKey, roundKey, keyOctet, expanded}
+use Rattle.meaning.specs.Cipher.{subBytes}
 use Rattle.aes.proofs.Fill.{Filled, filled-none, filled-more, filled-all}
 use Rattle.aes.proofs.sub_bytes.Statement.{statement}
 use Rattle.aes.proofs.sub_bytes.Tie as tie
