@@ -1,4 +1,5 @@
 pub mod Tests
+pub mod Joined
 pub mod Scan
 pub mod Lists
 pub mod Computed

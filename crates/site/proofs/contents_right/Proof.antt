@@ -1,59 +1,40 @@
+-- `site::contents_right` meets its contract: the entries before `kind` are right, and their bodies end at `start`. Assumes nothing.
+use borrow.Author.Needs.{needs}
+use native.Mathlib.Omega.{arith}
+use Prim.Native.Nat.{_+_, _*_, _-_, _≤_}
+use mathlib.Core.Path.{_≡_, refl}
+use Rattle.meaning.specs.Site.{startOf, entryRight, contentsRight}
+use Rattle.meaning.proofs.Joined.{joined}
+use Rattle.meaning.proofs.Scan.{Kept, kept-none, every-fails, every-more}
+use Rattle.site.proofs.Laws.{start-more, contents-fails, contents-done}
 use Rattle.site.proofs.contents_right.Statement.{statement}
 use Rattle.site.proofs.contents_right.Tie as tie
-use Rattle.site.proofs.contents_right.Reads as reads
-use Rattle.site.proofs.contents_right.Lts as lts
-use Rattle.site.proofs.entry_right.Reads as entry-right-reads
-use Rattle.site.proofs.size.Reads as size-reads
 
 abbrev Inv-loop : tie.InvT-loop
-Inv-loop site kind₀ start₀ kind start = ?
+Inv-loop site kind₀ start₀ kind start = Kept (entryRight site) 7 kind × ((start ≡ startOf site kind) × (start ≤ 42 + kind * 4294967296))
 
 abbrev μ-loop : tie.MeasureT-loop
-μ-loop site kind₀ start₀ kind start = ?
+μ-loop site kind₀ start₀ kind start = 7 - kind
 
--- src/lib.rt:100:9
 returns : tie.Need-returns Inv-loop μ-loop
-returns c = ?
+unfolding contentsRight
+returns c = search joined
 
--- src/lib.rt:104:5
 loop-holds : tie.Need-loop-holds Inv-loop μ-loop
-loop-holds c = ?
+unfolding startOf
+loop-holds c = (kept-none, (refl, omega arith))
 
--- src/lib.rt:105:13
 entry-right-requires : tie.Need-entry-right-requires Inv-loop μ-loop
-entry-right-requires c κs = ?
+entry-right-requires c κs = (omega arith, (omega arith, search needs))
 
--- src/lib.rt:106:13
 returns-2 : tie.Need-returns-2 Inv-loop μ-loop
-returns-2 c = ?
+returns-2 c = search (contents-fails, every-fails)
 
--- src/lib.rt:108:18
-size-requires : tie.Need-size-requires Inv-loop μ-loop
-size-requires c κs = ?
-
--- src/lib.rt:108:18
-cast-start : tie.Need-cast-start Inv-loop μ-loop
-cast-start c = ?
-
--- src/lib.rt:108:9
-add-start : tie.Need-add-start Inv-loop μ-loop
-add-start c = ?
-
--- src/lib.rt:109:9
-add-kind : tie.Need-add-kind Inv-loop μ-loop
-add-kind c = ?
-
--- src/lib.rt:104:5
-loop-less : tie.Need-loop-less Inv-loop μ-loop
-loop-less c = ?
-
--- src/lib.rt:104:5
 loop-again : tie.Need-loop-again Inv-loop μ-loop
-loop-again c = ?
+loop-again c = (search every-more, (search start-more, omega arith))
 
--- src/lib.rt:96:1
 returns-3 : tie.Need-returns-3 Inv-loop μ-loop
-returns-3 c = ?
+returns-3 c = search contents-done
 
 pub contents-right-spec : {M : Type 1} → statement M
 contents-right-spec =
@@ -65,10 +46,10 @@ contents-right-spec =
     loop-holds
     entry-right-requires
     returns-2
-    size-requires
-    cast-start
-    add-start
-    add-kind
-    loop-less
+    (λ c κs. omega arith)
+    (λ c. search needs)
+    (λ c. omega arith)
+    (λ c. omega arith)
+    (λ c. omega arith)
     loop-again
     returns-3)

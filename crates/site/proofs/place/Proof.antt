@@ -1,25 +1,12 @@
+-- `site::place` meets its contract, by what `number16` ensures. Assumes nothing.
+use Rattle.meaning.specs.Site.{placeOf}
 use borrow.Author.Needs.{needs}
 use Rattle.site.proofs.place.Statement.{statement}
 use Rattle.site.proofs.place.Tie as tie
-use Rattle.site.proofs.place.Reads as reads
-use Rattle.site.proofs.place.Lts as lts
-use Rattle.octets.proofs.number16.Reads as number16-reads
 
--- src/lib.rt:71:28
-mul-number16 : tie.Need-mul-number16
-mul-number16 c = search needs
-
--- src/lib.rt:71:28
-add-number16 : tie.Need-add-number16
-add-number16 c = search needs
-
--- src/lib.rt:71:5
-number16-requires : tie.Need-number16-requires
-number16-requires c κs = search needs
-
--- src/lib.rt:67:1
 returns : tie.Need-returns
-returns c = ?
+unfolding placeOf
+returns c = search needs
 
 pub place-spec : {M : Type 1} → statement M
-place-spec = tie.close (tie.spec mul-number16 add-number16 number16-requires returns)
+place-spec = tie.close (tie.spec (λ c. search needs) (λ c. search needs) (λ c κs. search needs) returns)
