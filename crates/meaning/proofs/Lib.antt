@@ -10,7 +10,9 @@ pub mod Same
 pub mod Numbers
 pub mod Sums
 pub mod Frame
+pub mod Lengths
 pub mod Order
 pub mod Ways
 pub mod Ccm
 pub mod Sites
+pub mod Kept

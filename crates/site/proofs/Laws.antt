@@ -8,8 +8,8 @@ use mathlib.Core.Bool.{Bool, true, false, _&&_, not}
 use mathlib.Core.List.{List}
 use lib.ListN.{length, take, drop, length-drop}
 use lib.Seq.{sets, length-take-le}
-use lib.Dec.{eqb, leb}
-use borrow.Author.Tests.{eq-eqb, ne-eqb, le-leb, lt-leb}
+use lib.Dec.{eqb, leb, ltb}
+use borrow.Author.Tests.{eq-eqb, ne-eqb, lt-ltb, le-ltb, le-leb, lt-leb}
 use Rattle.meaning.specs.Octets.{leAt, octs, every}
 use Rattle.meaning.specs.Site.{
   widthOf,
@@ -28,12 +28,28 @@ use Rattle.meaning.specs.Site.{
 }
 use Rattle.meaning.specs.Receive.{raise, raisedIn}
 use Rattle.meaning.specs.Build.{ownRaised}
+use Rattle.meaning.proofs.Tests.{not-on, not-off}
 use Rattle.meaning.proofs.Scan.{Kept, every-end}
 use Rattle.meaning.proofs.Stores.{sets-whole}
 use Rattle.meaning.proofs.Sites.{contents-inside, length-part, length-body, rule-first}
 use Rattle.site.specs.Rules.{recordRight, kindRight, clashBy}
 
--- ---- comparisons with callees' results: u says a, v says b
+-- ---- comparisons: as they stand, and with callees' results, where u says a and v says b
+pub eq-last : (a b u : ℕ) → u ≡ a → eqb u b ≡ eqb a b
+eq-last a b u d = rw d
+
+pub lt-last : (a b u : ℕ) → u ≡ a → ltb u b ≡ ltb a b
+lt-last a b u d = rw d
+
+pub eq-ends : (a b u v : ℕ) → u ≡ a → v ≡ b → eqb u v ≡ eqb a b
+eq-ends a b u v d e = rw (d, e)
+
+pub ge-by : (a b u : ℕ) → u ≡ a → b ≤ u → ltb a b ≡ false
+ge-by a b u d h = le-ltb a b (omega arith)
+
+pub lt-by : (a b u : ℕ) → u ≡ a → u < b → ltb a b ≡ true
+lt-by a b u d h = lt-ltb a b (omega arith)
+
 pub eq-right : (a b v : ℕ) → v ≡ b → a ≡ v → eqb a b ≡ true
 eq-right a b v d h = eq-eqb a b (h ∙ d)
 
@@ -46,10 +62,8 @@ le-both a b u v d e h = le-leb a b (omega arith)
 pub gt-both : (a b u v : ℕ) → u ≡ a → v ≡ b → v < u → leb a b ≡ false
 gt-both a b u v d e h = lt-leb a b (omega arith)
 
-pub eq-ends : (a b u v : ℕ) → u ≡ a → v ≡ b → eqb u v ≡ eqb a b
-eq-ends a b u v d e = rw (d, e)
-
-pub ruleset sides = (eq-right, ne-right, le-both, gt-both, eq-ends)
+pub ruleset sides =
+    (not-on, not-off, eq-eqb, ne-eqb, lt-ltb, le-ltb, le-leb, lt-leb, eq-last, lt-last, eq-ends, ge-by, lt-by, eq-right, ne-right, le-both, gt-both)
 
 -- ---- the table of contents
 pub start-more : (s : List ℕ) (k a u : ℕ) → a ≡ startOf s k → u ≡ widthOf k * countOf s k → a + u ≡ startOf s (k + 1)

@@ -1,6 +1,6 @@
 -- `search::at_least` meets its contract: each return by the tests on its way. Assumes nothing.
 use Rattle.meaning.specs.Frame.{atLeast}
-use Rattle.meaning.proofs.Joined.{joined}
+use Rattle.search.proofs.Joined.{joined}
 use Rattle.search.proofs.at_least.Statement.{statement}
 use Rattle.search.proofs.at_least.Tie as tie
 

@@ -1,7 +1,7 @@
 -- `search::fits_at` meets its contract: each return by the tests on its way. Assumes nothing.
 use borrow.Author.Needs.{needs}
 use Rattle.meaning.specs.Steps.{fits}
-use Rattle.meaning.proofs.Joined.{joined}
+use Rattle.search.proofs.Joined.{joined}
 use Rattle.search.proofs.fits_at.Statement.{statement}
 use Rattle.search.proofs.fits_at.Tie as tie
 

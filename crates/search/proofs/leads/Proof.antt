@@ -1,6 +1,6 @@
 -- `search::leads` meets its contract: each return by the test on its way. Assumes nothing.
 use borrow.Author.Needs.{needs}
-use Rattle.meaning.proofs.Joined.{joined}
+use Rattle.search.proofs.Joined.{joined}
 use Rattle.search.proofs.leads.Statement.{statement}
 use Rattle.search.proofs.leads.Tie as tie
 

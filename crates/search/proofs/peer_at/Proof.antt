@@ -3,7 +3,7 @@ use borrow.Author.Needs.{needs}
 use Rattle.meaning.specs.Site.{deviceAt}
 use Rattle.meaning.specs.Steps.{isPeer}
 use Rattle.meaning.proofs.Tests.{tests, compared}
-use Rattle.meaning.proofs.Joined.{joined}
+use Rattle.search.proofs.Joined.{joined}
 use Rattle.search.proofs.peer_at.Statement.{statement}
 use Rattle.search.proofs.peer_at.Tie as tie
 

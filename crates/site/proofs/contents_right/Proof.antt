@@ -6,7 +6,7 @@ use mathlib.Core.Path.{_≡_, refl}
 use Rattle.meaning.specs.Site.{startOf, entryRight, contentsRight}
 use Rattle.meaning.proofs.Joined.{joined}
 use Rattle.meaning.proofs.Scan.{Kept, kept-none, every-fails, every-more}
-use Rattle.site.proofs.Laws.{start-more, contents-fails, contents-done}
+use Rattle.site.proofs.Laws.{sides, start-more, contents-fails, contents-done}
 use Rattle.site.proofs.contents_right.Statement.{statement}
 use Rattle.site.proofs.contents_right.Tie as tie
 
@@ -18,7 +18,7 @@ abbrev μ-loop : tie.MeasureT-loop
 
 returns : tie.Need-returns Inv-loop μ-loop
 unfolding contentsRight
-returns c = search joined
+returns c = search (joined, sides)
 
 loop-holds : tie.Need-loop-holds Inv-loop μ-loop
 unfolding startOf

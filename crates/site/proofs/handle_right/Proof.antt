@@ -1,5 +1,6 @@
 -- `site::handle_right` meets its contract: each return by the tests on its way. Assumes nothing.
 use Rattle.meaning.proofs.Joined.{joined}
+use Rattle.site.proofs.Laws.{sides}
 use Rattle.meaning.specs.Site.{handleRight}
 use borrow.Author.Needs.{needs}
 use Rattle.site.proofs.handle_right.Statement.{statement}
@@ -7,11 +8,11 @@ use Rattle.site.proofs.handle_right.Tie as tie
 
 returns : tie.Need-returns
 unfolding handleRight
-returns c = search joined depth 9
+returns c = search (joined, sides) depth 9
 
 returns-2 : tie.Need-returns-2
 unfolding handleRight
-returns-2 c = search joined depth 9
+returns-2 c = search (joined, sides) depth 9
 
 pub handle-right-spec : {M : Type 1} → statement M
 handle-right-spec =

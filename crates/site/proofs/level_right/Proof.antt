@@ -1,5 +1,6 @@
 -- `site::level_right` meets its contract: each return by the tests on its way. Assumes nothing.
 use Rattle.meaning.proofs.Joined.{joined}
+use Rattle.site.proofs.Laws.{sides}
 use Rattle.meaning.specs.Site.{levelRight}
 use borrow.Author.Needs.{needs}
 use Rattle.site.proofs.level_right.Statement.{statement}
@@ -7,15 +8,15 @@ use Rattle.site.proofs.level_right.Tie as tie
 
 returns : tie.Need-returns
 unfolding levelRight
-returns c = search joined depth 9
+returns c = search (joined, sides) depth 9
 
 returns-2 : tie.Need-returns-2
 unfolding levelRight
-returns-2 c = search joined depth 9
+returns-2 c = search (joined, sides) depth 9
 
 returns-3 : tie.Need-returns-3
 unfolding levelRight
-returns-3 c = search joined depth 9
+returns-3 c = search (joined, sides) depth 9
 
 pub level-right-spec : {M : Type 1} → statement M
 level-right-spec =
