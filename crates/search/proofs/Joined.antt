@@ -1,9 +1,10 @@
 -- A Boolean that a function returns, where its meaning joins tests: by what each test on the way says, for `search`. Assumes nothing.
-use mathlib.Core.Path.{_≡_, sym, _∙_}
-use mathlib.Core.Bool.{Bool, true, false, _&&_, _||_, not}
-use Prim.Native.Nat.{ℕ, _≤_, _<_}
-use lib.Dec.{eqb, leb}
+use mathlib.Core.Path.{_≡_}
+use mathlib.Core.Bool.{Bool, true, false, _&&_, _||_}
+use Prim.Native.Nat.{ℕ}
+use lib.Dec.{eqb}
 use borrow.Author.Tests.{eq-eqb, ne-eqb, lt-leb, le-leb}
+use Rattle.meaning.proofs.Tests.{not-on, not-off}
 
 -- the tests before held: the last decides
 pub and-last : (a b z : Bool) → a ≡ true → z ≡ b → z ≡ (a && b)
@@ -18,14 +19,8 @@ or-last a b z h e = rw h e
 pub or-holds : (a b : Bool) → a ≡ true → true ≡ (a || b)
 or-holds a b h = rw h
 
-pub not-holds : (a : Bool) → a ≡ false → not a ≡ true
-not-holds a h = rw h
-
-pub not-fails : (a : Bool) → a ≡ true → not a ≡ false
-not-fails a h = rw h
-
 -- a comparison with a callee's result u, which its contract says is a
 pub eq-last : (a b u : ℕ) → u ≡ a → eqb u b ≡ eqb a b
 eq-last a b u d = rw d
 
-pub ruleset joined = (and-last, and-fails, or-last, or-holds, not-holds, not-fails, eq-eqb, ne-eqb, lt-leb, le-leb, eq-last)
+pub ruleset joined = (and-last, and-fails, or-last, or-holds, not-on, not-off, eq-eqb, ne-eqb, lt-leb, le-leb, eq-last)

@@ -1,12 +1,12 @@
 -- What is found lies in its table; the searches over the devices by their octets; the key lookup by the source compared. Assumes nothing.
 use mathlib.Core.Path.{_≡_, refl, ap, sym, _∙_, subst}
 use mathlib.Core.Bool.{Bool, true, false, _&&_}
-use mathlib.Core.List.{List, [], _∷_, _++_}
-use Prim.Native.Nat.{ℕ, zero, suc, _+_, _*_, _/_, _-_, _≤_, _<_}
+use mathlib.Core.List.{List, _++_}
+use Prim.Native.Nat.{ℕ, zero, suc, _+_, _*_, _-_, _≤_, _<_}
 use native.Mathlib.Omega.{arith}
 use native.Mathlib.Nat.{min-le-left}
 use lib.ListN.{length, getD, take, drop, length-take, length-append}
-use lib.Seq.{sets, length-take-le, take-at, take-append-add}
+use lib.Seq.{sets, take-at, take-append-add}
 use lib.Dec.{eqb}
 use Rattle.meaning.specs.Octets.{pick, scan, first, octs, stands, tab}
 use Rattle.meaning.specs.Frame.{addressLen, keySourceLen}
@@ -115,34 +115,40 @@ handleRow-tab b devices n k p h =
     (records 2 b)
     (λ j l. ap (λ (d : Device). eqb (getD b (2 * j) 0) k && isPeer p d) (getD-tab (deviceAt devices) noDevice n (getD b (2 * j + 1) 0) (h j l)))
 
+-- a device found by its octets has its record there
+pub device-below-tab : (b : List ℕ) (n : ℕ) (p : Address) (u : Found) (d : ℕ) → u ≡ deviceRow (tab (deviceAt b) n) p → u ≡ At d → d < n
+device-below-tab b n p u d e h = rw (length-tab (deviceAt b) n) at (device-below (tab (deviceAt b) n) p u d e h)
+
 -- what a callee says of device u, where u is read as d
 pub peer-by : (p : Address) (devices : List ℕ) (d u : ℕ) (r z : Bool) → u ≡ d → r ≡ isPeer p (deviceAt devices u) → r ≡ z → isPeer p (deviceAt devices d) ≡ z
 peer-by p devices d u r z e h k = rw e at (sym h) ∙ k
 
 -- ---- keys
-pub keyRow-by : (b t : List ℕ) (mode index : ℕ) (given : List ℕ) (p : Address) → keyRow b t mode index given p ≡ keyRowBy b mode index (keySource t given mode) p
+pub keyRow-by : (b t : List ℕ) (mode index : ℕ) (given : List ℕ) (p : Address)
+    → keyRow b t mode index given p ≡ keyRowBy b mode index (keySource t given mode) p
 unfolding keyRow keyRowBy implicitRow
 keyRow-by b t mode index given p = refl
 
-addressLen-most : (m : ℕ) → addressLen m ≤ 8
-unfolding addressLen
-addressLen-most m =
-    pick-all (λ n. n ≤ 8) (eqb m 2) _ _ (λ e. omega arith) (λ e. pick-all (λ n. n ≤ 8) (eqb m 3) _ _ (λ f. omega arith) (λ f. omega arith))
+-- the answer u to the source s lent
+pub keyRow-of : (b t : List ℕ) (mode index : ℕ) (given s : List ℕ) (p : Address) (u : Found)
+    → u ≡ keyRowBy b mode index s p → s ≡ keySource t given mode → u ≡ keyRow b t mode index given p
+keyRow-of b t mode index given s p u e d =
+    e ∙ ap (λ (x : List ℕ). keyRowBy b mode index x p) d ∙ sym (keyRow-by b t mode index given p)
 
-keySourceLen-most : (m : ℕ) → keySourceLen m ≤ 8
-unfolding keySourceLen
-keySourceLen-most m =
-    pick-all (λ n. n ≤ 8) (eqb m 2) _ _ (λ e. omega arith) (λ e. pick-all (λ n. n ≤ 8) (eqb m 3) _ _ (λ f. omega arith) (λ f. omega arith))
+most : (s t : Bool) (a b : ℕ) → a ≤ 8 → b ≤ 8 → pick s a (pick t b 0) ≤ 8
+most true t a b h k = h
+most false true a b h k = k
+most false false a b h k = omega arith
 
 length-take-most : (n : ℕ) (s : List ℕ) → length (take n s) ≤ n
 length-take-most n s = rw (length-take n s) (min-le-left n (length s))
 
 -- a key source compared has at most 8 octets
 pub keySource-length : (t given : List ℕ) (mode : ℕ) → length (keySource t given mode) ≤ 8
-unfolding keySource defaultKeySource
+unfolding keySource keySourceLen defaultKeySource
 keySource-length t given mode =
     pick-all (λ s. length s ≤ 8) (eqb mode 1) (defaultKeySource t) (take (keySourceLen mode) given) (λ e. length-take-most 8 (drop 22 t))
-    (λ e. omega (arith, length-take-most (keySourceLen mode) given, keySourceLen-most mode))
+    (λ e. omega (arith, length-take-most (keySourceLen mode) given, most (eqb mode 2) (eqb mode 3) 4 8 (omega arith) (omega arith)))
 
 -- what the peer's mode takes of its octets
 take-octs : (k m n : ℕ) → k ≤ m → take k (octs m n) ≡ octs k n
@@ -154,20 +160,18 @@ take-octs k m n h =
 pub record Lent (r : List ℕ) (n : ℕ) (p : Address) : Type 0 where
   pub few : 2 + n ≤ 10
   pub room : 2 + n ≤ length r
-  pub long : length (take (2 + n) r) ≡ 2 + n
   pub same : take (2 + n) r ≡ peerOctets p
 
 pub lent : (r : List ℕ) (n : ℕ) (p : Address) → r ≡ octs 2 (p .pan) ++ octs 8 (p .address) → n ≡ addressLen (p .mode) → Lent r n p
-unfolding peerOctets
+unfolding peerOctets addressLen
 lent r n p e d =
     let a : List ℕ = octs 2 (p .pan) in
     let b : List ℕ = octs 8 (p .address) in
     let l : length r ≡ 10 = ap length e ∙ omega (arith, length-append a b, length-octs 2 (p .pan), length-octs 8 (p .address)) in
-    let m : n ≤ 8 = omega (arith, addressLen-most (p .mode)) in
+    let m : n ≤ 8 = omega (arith, most (eqb (p .mode) 2) (eqb (p .mode) 3) 2 8 (omega arith) (omega arith)) in
     record {
       few = omega arith;
       room = omega arith;
-      long = length-take-le (2 + n) r (omega arith);
       same =
           ap (take (2 + n)) e
           ∙ ap (λ (j : ℕ). take (j + n) (a ++ b)) (sym (length-octs 2 (p .pan)))

@@ -221,6 +221,7 @@ pub fn lookup_row(lookups: &[u8], mode: u8, at: usize, lead: u8, wanted: &[u8]) 
     Found::At(number)
 }
 
+// How many octets an address of the mode has.
 fn address_len(mode: u8) -> usize
     ensures { λ r. ⌜ r ≡ addressLen mode ⌝ }
 {

@@ -2,6 +2,7 @@
 use mathlib.Core.Path.{ap, sym, _∙_}
 use borrow.Author.Needs.{needs}
 use native.Mathlib.Omega.{arith}
+use lib.Seq.{length-take-le}
 use Rattle.meaning.specs.Steps.{lookupRow}
 use Rattle.meaning.proofs.Tests.{tests, off-eq}
 use Rattle.search.specs.Rows.{implicitRow}
@@ -21,13 +22,13 @@ add-n : tie.Need-add-n
 add-n c = omega (arith, known c .few)
 
 array-share-prefix-octets : tie.Need-array-share-prefix-octets
-array-share-prefix-octets c = known c .room
+array-share-prefix-octets c = omega (arith, known c .room)
 
 slice-aggregate-lookup-row : tie.Need-slice-aggregate-lookup-row
-slice-aggregate-lookup-row c = sym (known (c .before) .long)
+slice-aggregate-lookup-row c = sym (length-take-le _ _ (omega (arith, known (c .before) .room)))
 
 lookup-row-requires : tie.Need-lookup-row-requires
-lookup-row-requires c κs = omega (arith, known (c .before) .long, known (c .before) .few)
+lookup-row-requires c κs = omega (arith, slice-aggregate-lookup-row c, known (c .before) .few)
 
 returns-2 : tie.Need-returns-2
 unfolding implicitRow

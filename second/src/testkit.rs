@@ -1,0 +1,34 @@
+//! Helpers for tests: sites, frames and build requests, made by hand or drawn
+//! at random from a seed.
+//!
+//! - `Rng`: the generator; the same seed draws the same things.
+//! - `SiteSpec`: a site as records; `encode` gives its octets.
+//! - `Breakage`, `Allowance`: each way to break a site rule, and what looks
+//!   broken and is not.
+//! - `Plan`: a frame as fields; `bare` and `seal` give its octets.
+//! - `FrameCase`, `frame`: random frames that fit a site, good and damaged.
+//! - `BuildInput`, `RequestBreakage`, `request`: random build requests.
+//! - `log_input`: a random input of the log program.
+//! - `hex`: octets from their hexadecimal digits.
+
+mod damage;
+mod frames;
+mod requests;
+mod rng;
+mod sites;
+
+pub use damage::{Allowance, Breakage};
+pub use frames::{frame, frame_of, log_input, open_payload, FrameCase, Plan};
+pub use requests::{request, request_of, BuildInput, RequestBreakage};
+pub use rng::Rng;
+pub use sites::{Device, Handle, Level, Lookup, Settings, SiteSpec, Usage};
+
+/// The octets written in hexadecimal; blanks and bars are skipped.
+pub fn hex(text: &str) -> Vec<u8> {
+    let digits: Vec<u8> = text
+        .chars()
+        .filter(|digit| !digit.is_whitespace() && *digit != '|')
+        .map(|digit| digit.to_digit(16).expect("a hexadecimal digit") as u8)
+        .collect();
+    digits.chunks(2).map(|pair| pair[0] << 4 | pair[1]).collect()
+}

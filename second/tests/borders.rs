@@ -1,0 +1,236 @@
+//! The borders of the requirements.
+
+use second::fcs::{fcs, fcs_holds};
+use second::frame::{open_len, read_header, security_len, tag_len};
+use second::receive::at_least;
+use second::testkit::{hex, Allowance, Breakage, Device, Handle, Level, Lookup, Plan, Rng};
+use second::testkit::{Settings, SiteSpec, Usage};
+use second::{build, receive, site_holds, Address, Built, Header, Received, Request};
+
+const KEY: [u8; 16] = [0x3c; 16];
+const PROBE: u64 = 0x1122_3344_5566_7788;
+
+#[test]
+fn fcs_of_02_00_6a() {
+    assert_eq!(fcs(&[0x02, 0x00, 0x6a]).to_le_bytes(), [0xe4, 0x79]);
+    assert!(fcs_holds(&[0x02, 0x00, 0x6a, 0xe4, 0x79]));
+    assert!(!fcs_holds(&[0x02, 0x00, 0x6a, 0xe4, 0x78]));
+}
+
+/// The table gives what the division bit by bit gives.
+#[test]
+fn fcs_bit_by_bit() {
+    let mut rng = Rng::new(1);
+    for len in 0..=125 {
+        let octets = rng.octets(len);
+        let mut rest = 0u32;
+        for bit in 0..8 * len {
+            let bit = octets[bit / 8] >> (bit % 8) & 1;
+            rest = rest << 1 ^ u32::from(bit) << 16;
+            rest = if rest & 0x1_0000 > 0 { rest ^ 0x1_1021 } else { rest };
+        }
+        assert_eq!(fcs(&octets), (rest as u16).reverse_bits());
+    }
+}
+
+#[test]
+fn levels_have_two_orders() {
+    assert!(!at_least(4, 3));
+    assert!(at_least(7, 3) && at_least(7, 4) && at_least(5, 1) && at_least(3, 3));
+    assert!(!at_least(3, 4) && !at_least(5, 2) && !at_least(0, 1));
+    assert_eq!([0, 1, 2, 3, 4, 5, 6, 7].map(tag_len), [0, 4, 8, 16, 0, 4, 8, 16]);
+}
+
+#[test]
+fn security_header_lengths() {
+    assert_eq!([0, 1, 2, 3].map(security_len), [5, 6, 10, 14]);
+}
+
+#[test]
+fn control_61_88_and_69_98() {
+    for (text, security, version) in [("61 88", 0, 0), ("69 98", 1, 1)] {
+        let mut frame = hex(text);
+        frame.extend(hex("01 21 43 02 03 04 05 00 00"));
+        let (header, len) = read_header(&frame).unwrap();
+        assert_eq!((header.kind, header.compression, len), (1, 1, 9));
+        assert_eq!((header.security, header.version), (security, version));
+        assert_eq!(header.destination, Address { mode: 2, pan: 0x4321, address: 0x0302 });
+        assert_eq!(header.source, Address { mode: 2, pan: 0x4321, address: 0x0504 });
+    }
+}
+
+#[test]
+fn beacon_open_payloads() {
+    assert_eq!(open_len(0, &hex("55 CF 00 00")), Some(4));
+    assert_eq!(open_len(0, &hex("55 CF 00")), None);
+    assert_eq!(open_len(0, &hex("55 CF 01 00 11 22 33 00")), Some(8));
+    assert_eq!(open_len(0, &hex("55 CF 01 00 11 22 33")), None);
+    let longest = [&hex("55 CF 07")[..], &[0; 22], &[0x70], &[0; 56]].concat();
+    assert_eq!(open_len(0, &longest), Some(82));
+    assert_eq!(open_len(0, &[&hex("55 CF 00 44")[..], &[0; 100]].concat()), None);
+    assert_eq!(open_len(0, &[&hex("55 CF F8 BC")[..], &[0; 100]].concat()), Some(4 + 8 + 24));
+    assert_eq!(
+        (open_len(3, &[]), open_len(3, &[4, 4]), open_len(1, &[1])),
+        (None, Some(1), Some(0))
+    );
+}
+
+/// A coordinator with one probe that may send data at any level above 0.
+fn spec(counter: u32) -> SiteSpec {
+    SiteSpec {
+        settings: Settings {
+            pan: 0x4321,
+            short: 0,
+            extended: 0xaa,
+            keysource: [0xff; 8],
+            flags: 3,
+            counter,
+            ..Settings::default()
+        },
+        devices: vec![Device { pan: 0x4321, short: 5, extended: PROBE, counter, exempt: 0 }],
+        levels: vec![Level { kind: 1, minimum: 0, allowed: 0xfe, ..Level::default() }],
+        keys: vec![KEY],
+        lookups: vec![Lookup { mode: 1, index: 1, source: [0xff; 8], ..Lookup::default() }],
+        usages: vec![Usage { kind: 1, ..Usage::default() }],
+        handles: vec![Handle::default()],
+    }
+}
+
+fn short(address: u64) -> Address {
+    Address { mode: 2, pan: 0x4321, address }
+}
+
+/// A data frame of the probe, header 9, key mode 1.
+fn probe_frame(counter: u32, level: u8, private: &[u8]) -> Vec<u8> {
+    let mut plan = Plan {
+        header: Header {
+            kind: 1,
+            security: 1,
+            compression: 1,
+            version: 1,
+            destination: short(0),
+            source: short(5),
+            ..Header::default()
+        },
+        private: private.to_vec(),
+        ..Plan::default()
+    };
+    plan.security.level = level;
+    plan.security.keymode = 1;
+    plan.security.keyindex = 1;
+    plan.security.counter = counter;
+    plan.seal(&KEY, PROBE)
+}
+
+/// The status and the counter after receiving.
+fn counted(site: &mut [u8], counter: u32) -> (u8, u32) {
+    let frame = probe_frame(counter, 6, b"reading");
+    let mut out = [0; 127];
+    let status = receive(site, &frame, &mut out).status;
+    assert_eq!(&out[..7] == b"reading", status == 0);
+    (status, u32::from_le_bytes(site[77 + 12..77 + 16].try_into().unwrap()))
+}
+
+#[test]
+fn counter_at_5() {
+    let mut site = spec(5).encode();
+    assert_eq!(counted(&mut site, 4), (14, 5));
+    assert_eq!(counted(&mut site, 5), (0, 6));
+    assert_eq!(counted(&mut site, 5), (14, 6));
+    assert_eq!(counted(&mut site, 1000), (0, 1001));
+}
+
+#[test]
+fn counter_at_the_end() {
+    let mut site = spec(5).encode();
+    assert_eq!(counted(&mut site, 0xffff_ffff), (14, 5));
+    assert_eq!(counted(&mut site, 0xffff_fffe), (0, 0xffff_ffff));
+    for counter in [0, 5, 0xffff_fffe, 0xffff_ffff] {
+        assert_eq!(counted(&mut site, counter), (14, 0xffff_ffff));
+    }
+}
+
+#[test]
+fn wrong_tag_keeps_the_counter() {
+    let mut site = spec(5).encode();
+    let before = site.clone();
+    for level in [1, 2, 3, 5, 6, 7] {
+        let mut frame = probe_frame(9, level, b"reading");
+        let end = frame.len() - 2;
+        frame[end - 1] ^= 0x80;
+        let sum = fcs(&frame[..end]);
+        frame[end..].copy_from_slice(&sum.to_le_bytes());
+        let mut out = [0xee; 127];
+        let received = receive(&mut site, &frame, &mut out);
+        assert_eq!(received, Received { status: 15, ..Received::default() });
+        assert_eq!((&site, out), (&before, [0xee; 127]));
+    }
+}
+
+#[test]
+fn own_counter() {
+    let request =
+        Request { kind: 1, version: 1, destination: short(5), srcmode: 2, ..Request::default() };
+    let request = Request { level: 6, keymode: 1, keyindex: 1, ..request };
+    let mut out = [0; 127];
+    let mut site = spec(0xffff_fffe).encode();
+    assert_eq!(build(&mut site, &request, &[], &[], &mut out).status, 0);
+    assert_eq!(site[73..77], [0xff; 4]);
+    assert_eq!(out[10..14], [0xfe, 0xff, 0xff, 0xff]);
+    let before = site.clone();
+    assert_eq!(build(&mut site, &request, &[], &[], &mut out), Built { status: 14, len: 0 });
+    let plain = Request { level: 0, ..request };
+    assert_eq!(build(&mut site, &plain, &[], &[], &mut out), Built { status: 0, len: 11 });
+    assert_eq!(site, before);
+}
+
+#[test]
+fn header_9_mode_1_level_6_has_room_for_102() {
+    let request =
+        Request { kind: 1, version: 1, destination: short(5), srcmode: 2, ..Request::default() };
+    let request = Request { level: 6, keymode: 1, keyindex: 1, ..request };
+    let (mut site, mut out) = (spec(5).encode(), [0xee; 127]);
+    let built = build(&mut site, &request, &[], &[7; 103], &mut out);
+    assert_eq!((built, out), (Built { status: 16, len: 0 }, [0xee; 127]));
+    assert_eq!(site, spec(5).encode());
+    let built = build(&mut site, &request, &[], &[7; 102], &mut out);
+    assert_eq!(built, Built { status: 0, len: 127 });
+    assert_eq!(out[9], 0x0e);
+}
+
+#[test]
+fn longest_frame_received() {
+    let (mut site, mut out) = (spec(5).encode(), [0xee; 127]);
+    let frame = probe_frame(5, 6, &[7; 102]);
+    assert_eq!(frame.len(), 127);
+    let received = receive(&mut site, &frame, &mut out);
+    assert_eq!((received.status, received.private, received.device), (0, 102, 1));
+    assert!(out[..102] == [7; 102] && out[102..] == [0xee; 25]);
+}
+
+#[test]
+fn room_and_length() {
+    let (mut site, frame) = (spec(5).encode(), hex("02 00 6A E4 79"));
+    assert_eq!(receive(&mut site, &frame, &mut [0; 126]).status, 2);
+    assert_eq!(receive(&mut site, &frame, &mut [0; 127]).status, 0);
+    assert_eq!(receive(&mut site, &frame[..4], &mut [0; 127]).status, 3);
+    assert_eq!(receive(&mut site, &[0; 128], &mut [0; 127]).status, 3);
+    assert_eq!(receive(&mut site, &[], &mut [0; 126]).status, 2);
+    assert_eq!(receive(&mut [], &[], &mut []).status, 1);
+    let request = Request::default();
+    assert_eq!(build(&mut site, &request, &[], &[], &mut [0; 126]).status, 2);
+    assert_eq!(build(&mut [], &request, &[], &[], &mut []).status, 1);
+}
+
+#[test]
+fn site_sizes() {
+    let mut rng = Rng::new(2);
+    let smallest = SiteSpec::default().encode();
+    assert_eq!((smallest.len(), site_holds(&smallest)), (77, true));
+    let spec = SiteSpec::random(&mut rng);
+    let largest = Allowance::Largest.apply(&mut rng, &spec);
+    assert_eq!((largest.len(), site_holds(&largest)), (3613, true));
+    for kind in 1..=7 {
+        assert!(!site_holds(&Breakage::CountOver(kind).apply(&mut rng, &spec)), "kind {kind}");
+    }
+}

@@ -1,0 +1,103 @@
+//! The log program.
+
+use second::status::NAMES;
+use second::testkit::{hex, log_input, Breakage, Rng, SiteSpec};
+use second::{log, receive};
+
+fn with_site(site: &[u8], frames: &[&[u8]]) -> Vec<u8> {
+    let mut input = (site.len() as u16).to_le_bytes().to_vec();
+    input.extend(site);
+    for frame in frames {
+        input.push(frame.len() as u8);
+        input.extend(*frame);
+    }
+    input
+}
+
+fn printed(input: &[u8]) -> String {
+    String::from_utf8(log(input)).unwrap()
+}
+
+fn listing() -> Vec<u8> {
+    let (good, bad) = (hex("02 00 6A E4 79"), hex("02 00 6A E4 78"));
+    with_site(&SiteSpec::default().encode(), &[&good, &bad, &[]])
+}
+
+#[test]
+fn listing_of_the_requirements() {
+    let expected = "frame status octets\n1 SUCCESS 0\n2 FCS 0\n3 LENGTH 0\n";
+    assert_eq!(printed(&listing()), expected);
+}
+
+/// Every cut of the listing's input, also between two items.
+#[test]
+fn cut_anywhere() {
+    let input = listing();
+    let lines = ["frame status octets\n", "1 SUCCESS 0\n", "2 FCS 0\n", "3 LENGTH 0\n"];
+    let ends = [79, 85, 91, 92];
+    assert_eq!(input.len(), 92);
+    for len in 0..=input.len() {
+        let whole = ends.iter().filter(|end| **end <= len).count();
+        let mut expected = lines[..whole.max(1)].concat();
+        if !ends.contains(&len) {
+            expected.push_str("CUT\n");
+        }
+        assert_eq!(printed(&input[..len]), expected, "{len} octets");
+    }
+}
+
+#[test]
+fn site_too_long() {
+    let expected = "frame status octets\nSITE\n";
+    assert_eq!(printed(&with_site(&[0; 3614], &[&[1, 2, 3]])), expected);
+    assert_eq!(printed(&[0x1e, 0x0e]), expected);
+    assert_eq!(printed(&[0xff, 0xff, 1]), expected);
+    assert_eq!(printed(&[0x1d, 0x0e]), "frame status octets\nCUT\n");
+}
+
+#[test]
+fn broken_site() {
+    let good = hex("02 00 6A E4 79");
+    let expected = "frame status octets\n1 SITE 0\n2 SITE 0\n";
+    assert_eq!(printed(&with_site(&[0; 3613], &[&good, &[]])), expected);
+    assert_eq!(printed(&with_site(&[], &[&good, &[]])), expected);
+    let mut rng = Rng::new(21);
+    for breakage in Breakage::all() {
+        let site = breakage.apply(&mut rng, &SiteSpec::default());
+        assert_eq!(printed(&with_site(&site, &[&good, &[]])), expected, "{}", breakage.name());
+    }
+}
+
+#[test]
+fn frames_of_255_octets() {
+    let expected = "frame status octets\n1 LENGTH 0\n2 LENGTH 0\nCUT\n";
+    let mut input = with_site(&SiteSpec::default().encode(), &[&[0; 255], &[0; 128]]);
+    input.push(255);
+    assert_eq!(printed(&input), expected);
+}
+
+/// The log prints what receiving frame by frame gives.
+#[test]
+fn log_is_receiving() {
+    let mut rng = Rng::new(22);
+    for _ in 0..300 {
+        let spec = SiteSpec::random(&mut rng);
+        let input = log_input(&mut rng, &spec, 20);
+        let mut site = spec.encode();
+        let mut rest = input.get(2 + site.len()..).unwrap_or(&[]);
+        let (mut out, mut number) = ([0; 127], 0);
+        let mut expected = String::from("frame status octets\n");
+        while !rest.is_empty() && rest.len() > usize::from(rest[0]) {
+            let (frame, behind) = rest[1..].split_at(rest[0].into());
+            let received = receive(&mut site, frame, &mut out);
+            number += 1;
+            let name = NAMES[usize::from(received.status)];
+            expected += &format!("{number} {name} {}\n", received.private);
+            rest = behind;
+        }
+        if !rest.is_empty() || input.len() < 2 + site.len() {
+            expected.push_str("CUT\n");
+        }
+        assert_eq!(printed(&input), expected);
+    }
+}
