@@ -91,7 +91,14 @@ fn next_end(number: u64, room: usize, buf: &[u8], at: usize, have: usize) -> usi
 }
 
 // The answer to a frame at a site; `ok` says whether the site holds its rules, and then they are not looked at again.
-fn answer(sums: &[u16; 256], sbox: &[u8; 256], ok: bool, site: &mut [u8], frame: &[u8], out: &mut [u8]) -> Answer
+fn answer(
+    sums: &[u16; 256],
+    sbox: &[u8; 256],
+    ok: bool,
+    site: &mut [u8],
+    frame: &[u8],
+    out: &mut [u8],
+) -> Answer
     requires { ⌜ IsTable (now sums) ⌝ }
     requires { ⌜ IsSbox (now sbox) ⌝ }
     requires { ⌜ ok ≡ siteRule (now site) ⌝ }
@@ -161,7 +168,18 @@ fn batch(
         if end <= at {
             return Batch { number, at, used };
         }
-        used = step(sums, sbox, names, ok, site, &buf[at + 1..end], out, number, text, used);
+        used = step(
+            sums,
+            sbox,
+            names,
+            ok,
+            site,
+            &buf[at + 1..end],
+            out,
+            number,
+            text,
+            used,
+        );
         number += 1;
         at = end;
     }
@@ -211,7 +229,19 @@ fn run(site: &mut [u8], buf: &mut [u8], from: usize, to: usize, text: &mut [u8])
     loop {
         let p = more(buf, at, have);
         let start = p.at;
-        let b = batch(&sums, &sbox, &names, ok, site, &mut out, number, buf, start, p.have, text);
+        let b = batch(
+            &sums,
+            &sbox,
+            &names,
+            ok,
+            site,
+            &mut out,
+            number,
+            buf,
+            start,
+            p.have,
+            text,
+        );
         io::write_all(STDOUT_FILENO, &text[..b.used]);
         if b.at <= start {
             let e = finish(text, b.at, p.have);
