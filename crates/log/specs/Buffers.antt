@@ -18,8 +18,8 @@ use Rattle.meaning.specs.Receive.{received}
 use Rattle.lines.specs.Text.{Put, lineOf}
 use Rattle.lines.specs.Log.{printedFrom, ending}
 use Rattle.log.specs.declared.Place.{Place}
-use Rattle.log.specs.declared.Answer.{Answer}
-use Rattle.log.specs.declared.Batch.{Batch}
+use Rattle.log.specs.declared.Reply.{Reply}
+use Rattle.log.specs.declared.Progress.{Progress}
 
 -- between at and have
 abbrev pub hand : List ℕ → ℕ → ℕ → List ℕ
@@ -40,7 +40,7 @@ unfoldable pub nextEnd : ℕ → ℕ → List ℕ → ℕ → ℕ → ℕ
 nextEnd number room s at have = pick (ltb number 18446744073709551615) (pick (leb 80 room) (endOf s at have) at) at
 
 -- frame f at site s with output o
-pub record Answered (s f o : List ℕ) (r : Answer) (s′ o′ : List ℕ) : Type 0 where
+pub record Answered (s f o : List ℕ) (r : Reply) (s′ o′ : List ℕ) : Type 0 where
   pub status : r .status ≡ received s f o .answer .status
   pub private : r .private ≡ received s f o .answer .private
   pub site : s′ ≡ received s f o .site
@@ -52,11 +52,11 @@ pub record Stepped (s f o : List ℕ) (number : ℕ) (t : List ℕ) (at : ℕ) (
   pub put : Put t at (lineOf number (received s f o .answer .status) (received s f o .answer .private)) t′ r
 
 -- what is to be printed of the octets at hand and any that may follow is the text used, and then what is to be printed of those left
-pub record Batched (s o : List ℕ) (first : ℕ) (b : List ℕ) (from have : ℕ) (t s′ o′ t′ : List ℕ) (r : Batch) : Type 0 where
+pub record Batched (s o : List ℕ) (first : ℕ) (b : List ℕ) (from have : ℕ) (t s′ o′ t′ : List ℕ) (r : Progress) : Type 0 where
   pub order : from ≤ r .at
   pub fit : r .at ≤ have
   pub room : r .used ≤ length t′
-  pub counted : from < r .at → first < r .number
+  pub counted : from < r .at → (first < r .number) × (first < 18446744073709551615)
   pub goes : (z : List ℕ)
       → printedFrom first s o (hand b from have ++ z) ≡ take (r .used) t′ ++ printedFrom (r .number) s′ o′ (hand b (r .at) have ++ z)
   -- where no frame was answered, none is at hand

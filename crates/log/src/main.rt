@@ -28,13 +28,13 @@ pub enum Opening {
 }
 
 // A frame's status and private length.
-pub struct Answer {
+pub struct Reply {
     pub status: u8,
     pub private: usize,
 }
 
 // The next frame's number, where the next item starts, and how much of the text is used.
-pub struct Batch {
+pub struct Progress {
     pub number: u64,
     pub at: usize,
     pub used: usize,
@@ -98,7 +98,7 @@ fn answer(
     site: &mut [u8],
     frame: &[u8],
     out: &mut [u8],
-) -> Answer
+) -> Reply
     requires { ⌜ IsTable (now sums) ⌝ }
     requires { ⌜ IsSbox (now sbox) ⌝ }
     requires { ⌜ ok ≡ siteRule (now site) ⌝ }
@@ -106,12 +106,12 @@ fn answer(
 {
     if ok {
         let r = receiver::receive_valid(sums, sbox, site, frame, out);
-        return Answer {
+        return Reply {
             status: r.status,
             private: r.private,
         };
     }
-    Answer {
+    Reply {
         status: 1,
         private: 0,
     }
@@ -153,7 +153,7 @@ fn batch(
     from: usize,
     have: usize,
     text: &mut [u8],
-) -> Batch
+) -> Progress
     requires { ⌜ IsTable (now sums) ⌝ }
     requires { ⌜ IsSbox (now sbox) ⌝ }
     requires { ⌜ IsNames (now names) ⌝ }
@@ -166,7 +166,7 @@ fn batch(
     loop {
         let end = next_end(number, text.len() - used, buf, at, have);
         if end <= at {
-            return Batch { number, at, used };
+            return Progress { number, at, used };
         }
         used = step(
             sums,
@@ -197,14 +197,14 @@ fn finish(text: &mut [u8], at: usize, have: usize) -> usize
 }
 
 // How the input begins, from its first octets.
-fn opening(buf: &[u8], have: usize) -> Opening
+fn beginning(buf: &[u8], have: usize) -> Opening
     requires { ⌜ have ≤ length (now buf) ⌝ }
     ensures { λ r. ⌜ r ≡ openingOf (take have (now (buf .entry))) ⌝ }
 {
     if have < 2 {
         return Opening::Cut;
     }
-    let n = octets::wide(buf[0]) + 256 * octets::wide(buf[1]);
+    let n = octets::number16(buf, 0) as usize;
     if 3613 < n {
         return Opening::Long;
     }
@@ -259,7 +259,7 @@ fn start(buf: &mut [u8], have: usize, text: &mut [u8])
     requires { ⌜ (have ≤ length (now buf)) × (80 ≤ length (now text)) ⌝ }
 {
     let h = lines::heading(text, 0);
-    match opening(buf, have) {
+    match beginning(buf, have) {
         Opening::Cut => {
             let e = lines::cut(text, h);
             io::write_all(STDOUT_FILENO, &text[..e]);
