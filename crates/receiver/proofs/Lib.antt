@@ -1,3 +1,4 @@
 pub mod Stages
 pub mod Bodies
 pub mod Commits
+pub mod Openings
