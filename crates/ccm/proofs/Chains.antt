@@ -118,7 +118,7 @@ module _ (E : List ℕ → List ℕ) (nonce : List ℕ) (m : ℕ) (a q : List �
       let D : List ℕ = dataBlocks a in
       let Q : List ℕ = padded q in
       let n : length (front ++ (D ++ Q)) / 16 ≡ 1 + (length D / 16 + length Q / 16) =
-          simp length-append (omega (arith, front-long, whole-data a, whole-padded q)) in
+      simp length-append (omega (arith, front-long, whole-data a, whole-padded q)) in
       ap (λ (k : ℕ). chain E zeros k (front ++ (D ++ Q))) n
       ∙ chain-append E 1 (length D / 16 + length Q / 16) zeros front (D ++ Q) front-long
       ∙ ap (λ (y : List ℕ). chain E y (length D / 16 + length Q / 16) (D ++ Q)) front-chain

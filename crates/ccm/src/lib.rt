@@ -196,14 +196,19 @@ fn chain_data(t: &[u8; 256], w: &Schedule, x: [u8; 16], authenticated: &[u8]) ->
 }
 
 // Sixteen octets whose first m are the tag over data and message; nothing is changed.
-pub fn tag(t: &[u8; 256], w: &Schedule, nonce: [u8; 13], m: usize, authenticated: &[u8], message: &[u8]) -> [u8; 16]
+pub fn tag(
+    t: &[u8; 256],
+    w: &Schedule,
+    nonce: [u8; 13],
+    m: usize,
+    authenticated: &[u8],
+    message: &[u8],
+) -> [u8; 16]
     requires { ⌜ IsSbox (now t) ⌝ }
     requires { ⌜ m ≤ 16 ⌝ }
     requires { ⌜ length (now authenticated) < 65280 ⌝ }
     requires { ⌜ length (now message) < 65536 ⌝ }
-    ensures {
-      λ r. ⌜ r ≡ wholeTag (cipherBy (now (w .entry))) nonce m (now (authenticated .entry)) (now (message .entry)) ⌝
-    }
+    ensures { λ r. ⌜ r ≡ wholeTag (cipherBy (now (w .entry))) nonce m (now (authenticated .entry)) (now (message .entry)) ⌝ }
 {
     let first = first_block(nonce, m, authenticated.len(), message.len());
     let x = aes::encrypt_with(t, w, first);
@@ -243,13 +248,19 @@ fn crypt_at(t: &[u8; 256], w: &Schedule, nonce: [u8; 13], level: u8, message: &m
 }
 
 // The tag of a level: over the first `opens` octets of `clear` and the text, and below level 4 over all of `clear`.
-fn tag_at(t: &[u8; 256], w: &Schedule, nonce: [u8; 13], level: u8, clear: &[u8], opens: usize, text: &[u8]) -> [u8; 16]
+fn tag_at(
+    t: &[u8; 256],
+    w: &Schedule,
+    nonce: [u8; 13],
+    level: u8,
+    clear: &[u8],
+    opens: usize,
+    text: &[u8],
+) -> [u8; 16]
     requires { ⌜ IsSbox (now t) ⌝ }
     requires { ⌜ (opens ≤ length (now clear)) × (length (now clear) < 65280) ⌝ }
     requires { ⌜ length (now text) < 65536 ⌝ }
-    ensures {
-      λ r. ⌜ r ≡ tagBy (cipherBy (now (w .entry))) nonce level (now (clear .entry)) opens (now (text .entry)) ⌝
-    }
+    ensures { λ r. ⌜ r ≡ tagBy (cipherBy (now (w .entry))) nonce level (now (clear .entry)) opens (now (text .entry)) ⌝ }
 {
     let m = tag_len(level);
     if 4 <= level {
@@ -259,24 +270,34 @@ fn tag_at(t: &[u8; 256], w: &Schedule, nonce: [u8; 13], level: u8, clear: &[u8],
 }
 
 // The tag of a frame of which the octets past the first `opens` are the private payload.
-fn frame_tag(t: &[u8; 256], w: &Schedule, nonce: [u8; 13], level: u8, frame: &[u8], opens: usize) -> [u8; 16]
+fn frame_tag(
+    t: &[u8; 256],
+    w: &Schedule,
+    nonce: [u8; 13],
+    level: u8,
+    frame: &[u8],
+    opens: usize,
+) -> [u8; 16]
     requires { ⌜ IsSbox (now t) ⌝ }
     requires { ⌜ (opens ≤ length (now frame)) × (length (now frame) < 65280) ⌝ }
-    ensures {
-      λ r. ⌜ r ≡ tagBy (cipherBy (now (w .entry))) nonce level (now (frame .entry)) opens (drop opens (now (frame .entry))) ⌝
-    }
+    ensures { λ r. ⌜ r ≡ tagBy (cipherBy (now (w .entry))) nonce level (now (frame .entry)) opens (drop opens (now (frame .entry))) ⌝ }
 {
     tag_at(t, w, nonce, level, frame, opens, &frame[opens..])
 }
 
 // Seals a frame in place: its first `opens` octets are authenticated and stay, the others are the private payload, which levels 4 to 7 encipher.
 // The first `tag_len(level)` octets of the result are the tag.
-pub fn seal(t: &[u8; 256], w: &Schedule, nonce: [u8; 13], level: u8, frame: &mut [u8], opens: usize) -> [u8; 16]
+pub fn seal(
+    t: &[u8; 256],
+    w: &Schedule,
+    nonce: [u8; 13],
+    level: u8,
+    frame: &mut [u8],
+    opens: usize,
+) -> [u8; 16]
     requires { ⌜ IsSbox (now t) ⌝ }
     requires { ⌜ (opens ≤ length (now frame)) × (length (now frame) < 65280) ⌝ }
-    ensures {
-      λ r. ⌜ Sealing (cipherBy (now (w .entry))) nonce level opens (now (frame .entry)) (now (frame .exit)) r ⌝
-    }
+    ensures { λ r. ⌜ Sealing (cipherBy (now (w .entry))) nonce level opens (now (frame .entry)) (now (frame .exit)) r ⌝ }
 {
     let sum = frame_tag(t, w, nonce, level, frame, opens);
     crypt_at(t, w, nonce, level, &mut frame[opens..]);
@@ -298,10 +319,8 @@ pub fn unseal(
     requires { ⌜ IsSbox (now t) ⌝ }
     requires { ⌜ (opens + private + tagLen level ≡ length (now body)) × (length (now body) < 65280) ⌝ }
     requires { ⌜ private ≤ length (now scratch) ⌝ }
-    ensures {
-      λ r.
-        ⌜ Opening (cipherBy (now (w .entry))) nonce level (now (body .entry)) opens private (now (scratch .entry)) (now (scratch .exit)) r ⌝
-    }
+    ensures { λ r.
+        ⌜ Opening (cipherBy (now (w .entry))) nonce level (now (body .entry)) opens private (now (scratch .entry)) (now (scratch .exit)) r ⌝ }
 {
     let end = opens + private;
     octets::copy_in(scratch, 0, &body[opens..end]);

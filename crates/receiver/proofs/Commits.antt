@@ -5,6 +5,8 @@ use mathlib.Core.List.{List, []}
 use Prim.Native.Nat.{ℕ, suc, _+_, _-_, _*_, _≤_, _<_}
 use native.Mathlib.Numerals.{add-one}
 use native.Mathlib.Omega.{arith}
+use mir.Syntax.{w64}
+use mir.Val.{Fits as Fits64}
 use lib.ListN.{length, getD, take, drop, length-take, length-drop}
 use lib.Seq.{sets}
 use lib.Dec.{leb, eqb}
@@ -23,8 +25,8 @@ use Rattle.meaning.specs.Frame.{
   openEnd,
   privateLen,
 }
-use Rattle.meaning.specs.Site.{countOf, body, siteRule, deviceAt, counterAt, keyAt, storeOf, tablesOf}
-use Rattle.meaning.specs.Steps.{noDevice}
+use Rattle.meaning.specs.Site.{widthOf, limitOf, countOf, body, siteRule, deviceAt, counterAt, keyAt, storeOf, tablesOf}
+use Rattle.meaning.specs.Steps.{noDevice, keyOf, handleOf}
 use Rattle.meaning.specs.Ccm.{Opened}
 use Rattle.meaning.specs.Receive.{
   refusal,
@@ -49,10 +51,11 @@ use Rattle.meaning.specs.Receive.{
   outcome,
   write,
   receivedValid,
+  received,
 }
 use Rattle.meaning.specs.Room.{Fits}
 use Rattle.meaning.specs.declared.Refusal.{Refusal}
-use Rattle.meaning.specs.declared.Refusal.the-variants.{CounterError, SecurityError}
+use Rattle.meaning.specs.declared.Refusal.the-variants.{Site, CounterError, SecurityError}
 use Rattle.meaning.specs.declared.Cuts.{Cuts}
 use Rattle.meaning.specs.declared.Device.{Device}
 use Rattle.meaning.specs.declared.Header.{Header}
@@ -62,8 +65,10 @@ use Rattle.meaning.specs.declared.Received.{Received}
 use Rattle.meaning.proofs.Tests.{and-right}
 use Rattle.meaning.proofs.Stores.{sets-beside, take-beside}
 use Rattle.meaning.proofs.Ccm.{length-text}
-use Rattle.meaning.proofs.Sites.{device-of, counter-of}
-use Rattle.receiver.specs.Parts.{keyMode, Plainly, Unsecured, keyOfSite, extendedOf, settled}
+use Rattle.meaning.proofs.Sites.{rule-limit, rule-lookups, rule-handles, device-of, counter-of}
+use Rattle.meaning.proofs.Ways.{secure-fits}
+use Rattle.receiver.proofs.Checks.{records-is}
+use Rattle.receiver.specs.Parts.{keyMode, Plainly, Unsecured, keyOfSite, extendedOf, committed, unlocked, settled}
 use Rattle.receiver.proofs.Bodies.{header-is, view-aux, view-cuts, view-size}
 
 -- ---- the answer
@@ -71,8 +76,8 @@ pub by-report : (b : List ℕ) (c : Cuts) (hs xs : List ℕ) (h : Header) (l m k
     → c ≡ cutsOf b → hs ≡ part 0 (c .head) b → h ≡ headerOf hs → xs ≡ part (c .head) (c .aux) b
     → l ≡ levelOf xs → m ≡ modeOf xs → k ≡ keyMode l m → tag ≡ tagLen l
     → _≡_ {A = Received}
-        (record { status = 0; header = h; level = l; keymode = k; device = device; private = length b - (c .head + c .aux + c .opens) - tag; start = c .head + c .aux; len = c .opens })
-        (report (view b) (levelOf (view b .aux)) device)
+    (record { status = 0; header = h; level = l; keymode = k; device = device; private = length b - (c .head + c .aux + c .opens) - tag; start = c .head + c .aux; len = c .opens })
+    (report (view b) (levelOf (view b .aux)) device)
 unfolding report privateLen openEnd
 by-report b c hs xs h l m k tag device e a g i j n o q =
     rw (q, o, n, j, i, g, a, e, header-is b, view-aux b, view-cuts b, view-size b)
@@ -165,6 +170,23 @@ counter-right : (n c u : ℕ) → u ≡ n → (c ≡ 0xffff_ffff → ⊥) → u 
 unfolding timely
 counter-right n c u e g h = let l : leb n c ≡ true = le-leb n c (rw e at h) in rw (ne-eqb c 0xffff_ffff g, l)
 
+pub last-counter : (s f o b : List ℕ) (k j d c : ℕ) (r : Received) → d < countOf s 1 → b ≡ inner f → c ≡ counterOf (view b .aux)
+    → c ≡ 0xffff_ffff → r ≡ refusal CounterError → outcome r s o ≡ settled s f o (Secure k j d)
+last-counter s f o b k j d c r h e g t a = at-counter s f o b k j d c r h e g (counter-last _ c t) a
+
+pub low-counter : (s f o b : List ℕ) (k j d c u : ℕ) (r : Received) → d < countOf s 1 → b ≡ inner f → c ≡ counterOf (view b .aux)
+    → u ≡ counterAt (body s 1) d → c < u → r ≡ refusal CounterError → outcome r s o ≡ settled s f o (Secure k j d)
+low-counter s f o b k j d c u r h e g q t a = at-counter s f o b k j d c r h e g (counter-low _ c u q t) a
+
+-- what the callees ask
+pub inner-short : (f o b : List ℕ) → Fits (length o) f → b ≡ inner f → length b ≤ 125
+unfolding inner
+inner-short f o b fits e = rw e (simp length-take (omega (arith, fits .most)))
+
+pub device-fits : (s : List ℕ) (d : ℕ) → siteRule s ≡ true → d < countOf s 1 → Fits64 w64 (d + 1)
+unfolding limitOf
+device-fits s d rule h = omega (arith, rule-limit s rule 1 (omega arith))
+
 private-is : (b : List ℕ) → privateLen (view b) ≡ length b - openEnd (cutsOf b) - tagLen (levelOf (view b .aux))
 unfolding privateLen
 private-is b = rw (view-cuts b, view-size b)
@@ -173,43 +195,97 @@ private-of : (v : View) (l device : ℕ) → report v l device .private ≡ priv
 unfolding report
 private-of v l device = refl
 
--- the tag's verdict
-module _ (s f o b : List ℕ) (k j d c u : ℕ) (scratch scratch′ : List ℕ) (right : Bool)
-    (h : d < countOf s 1) (e : b ≡ inner f) (g : c ≡ counterOf (view b .aux)) (n : c ≡ 0xffff_ffff → ⊥) (q : u ≡ counterAt (body s 1) d) (l : u ≤ c)
-    (w : Unsecured (keyOfSite s k) (extendedOf s d) b scratch right scratch′) where
-  in-time : timeOf s f j d ≡ true
-  in-time = rw (store-counter s j d h, ← e, ← g) (counter-right (counterAt (body s 1) d) c u q n l)
+store-tables : (s : List ℕ) → storeOf s .tables ≡ tablesOf s
+unfolding storeOf
+store-tables s = refl
 
-  opened-is : opened (keyAt (storeOf s .keys) k) (getD (storeOf s .tables .devices) d noDevice .extended) (view (inner f)) (inner f)
-      ≡ opened (keyOfSite s k) (extendedOf s d) (view b) b
-  opened-is = rw (store-key s k, store-extended s d h, e)
+-- ---- what is written
+pub private-short : (b o x y : List ℕ) (a : Received) (device : ℕ) → openEnd (cutsOf b) + tagLen (levelOf (view b .aux)) ≤ length b → length b ≤ length o
+    → a ≡ report (view b) (levelOf (view b .aux)) device → y ≡ part 0 (a .private) x → 0 + length y ≤ length o
+private-short b o x y a device h k p q =
+    let n : a .private ≡ privateLen (view b) = ap (λ (r : Received). r .private) p ∙ private-of (view b) _ device in
+    rw q (simp length-take (omega (arith, n, private-is b)))
 
-  pub at-wrong : (r : Received) → right ≡ false → r ≡ refusal SecurityError → outcome r s o ≡ settled s f o (Secure k j d)
-  unfolding settled settle admit tagged write
-  at-wrong r z a = rw (in-time, opened-is, ← (w .verdict), z, a)
+pub by-commit : (s b o x y : List ℕ) (d c : ℕ) (a : Received) (device : ℕ) (s′ o′ : List ℕ)
+    → openEnd (cutsOf b) + tagLen (levelOf (view b .aux)) ≤ length b → length b ≤ length o → device ≡ d + 1
+    → a ≡ report (view b) (levelOf (view b .aux)) device → y ≡ part 0 (a .private) x
+    → o′ ≡ sets o 0 y → s′ ≡ raisedIn (raise 0 d c) s → outcome a s′ o′ ≡ committed s b o x d c
+unfolding committed
+by-commit s b o x y d c a device s′ o′ h k i p q w t =
+    let n : a .private ≡ privateLen (view b) = ap (λ (r : Received). r .private) p ∙ private-of (view b) _ device in
+    let out : o′ ≡ beside (take (privateLen (view b)) x) o =
+    w ∙ sets-beside y o (let z = private-short b o x y a device h k p q in omega arith) ∙ ap (λ (r : List ℕ). beside r o) (rw (← n) q) in
+    let answer : a ≡ report (view b) (levelOf (view b .aux)) (suc d) = p ∙ ap (report (view b) (levelOf (view b .aux))) (i ∙ add-one d) in
+    rw (answer, t, out)
 
-  -- the text is as long as the answer tells, and stands in front of the scratch
-  module _ (fits : Fits (length o) f) where
-    text-long : length (opened (keyOfSite s k) (extendedOf s d) (view b) b .text) ≡ privateLen (view b)
-    unfolding opened privateOf
-    text-long =
-        length-text _ _ _ _ _ _
-        ∙ simp (length-take, length-drop) (rw (private-is b, view-cuts b) (omega (arith, rw (← e) at (fits .body))))
+-- ---- 15
+module _ (s b o : List ℕ) (k d c : ℕ) (scratch scratch′ : List ℕ) (right : Bool) (w : Unsecured (keyOfSite s k) (extendedOf s d) b scratch right scratch′) where
+  pub is-wrong : (r : Received) → right ≡ false → r ≡ refusal SecurityError → outcome r s o ≡ unlocked s b o k d c
+  unfolding unlocked tagged write
+  is-wrong r z a = rw (← (w .verdict), z, a)
 
-    text-is : take (privateLen (view b)) scratch′ ≡ opened (keyOfSite s k) (extendedOf s d) (view b) b .text
-    text-is = rw (w .text, ← text-long) (take-beside _ scratch)
+  text-long : openEnd (cutsOf b) + tagLen (levelOf (view b .aux)) ≤ length b → length (opened (keyOfSite s k) (extendedOf s d) (view b) b .text) ≡ privateLen (view b)
+  unfolding opened privateOf
+  text-long h =
+      length-text _ _ _ _ _ _ ∙ simp (length-take, length-drop) (rw (private-is b, view-cuts b) (omega arith))
 
-    short : length (opened (keyOfSite s k) (extendedOf s d) (view b) b .text) ≤ length o
-    short = omega (arith, text-long, private-is b, fits .room-is, fits .most, ap length e, length-inner f)
+  pub is-right : (z : Outcome) → openEnd (cutsOf b) + tagLen (levelOf (view b .aux)) ≤ length b → right ≡ true → z ≡ committed s b o scratch′ d c → z ≡ unlocked s b o k d c
+  unfolding unlocked tagged write committed
+  is-right z h t e =
+      let text : take (privateLen (view b)) scratch′ ≡ opened (keyOfSite s k) (extendedOf s d) (view b) b .text = rw (w .text, ← text-long h) (take-beside _ scratch) in
+      e ∙ rw (text, ← (w .verdict), t)
 
-    pub at-right : (a : Received) (device m : ℕ) (s′ o′ : List ℕ) → right ≡ true → device ≡ d + 1
-        → a ≡ report (view b) (levelOf (view b .aux)) device → m ≡ a .private
-        → o′ ≡ sets o 0 (take m scratch′) → s′ ≡ raisedIn (raise j d c) s → outcome a s′ o′ ≡ settled s f o (Secure k j d)
-    unfolding settled settle admit tagged write
-    at-right a device m s′ o′ z i p x y t =
-        let len : m ≡ privateLen (view b) = x ∙ ap (λ (r : Received). r .private) p ∙ private-of (view b) _ device in
-        let text : take m scratch′ ≡ opened (keyOfSite s k) (extendedOf s d) (view b) b .text = rw len text-is in
-        let out : o′ ≡ beside (opened (keyOfSite s k) (extendedOf s d) (view b) b .text) o = y ∙ ap (λ (q : List ℕ). sets o 0 q) text ∙ sets-beside _ o short in
-        let device-is : device ≡ suc d = i ∙ add-one d in
-        let answer : a ≡ report (view (inner f)) (levelOf (view (inner f) .aux)) (suc d) = rw (← device-is, ← e) p in
-        rw (in-time, opened-is, ← (w .verdict), z, out, t, answer, g, e)
+-- ---- after the counter
+any-handle : (s o p : List ℕ) (right : Bool) (a : Received) (j d c : ℕ) → write s o (tagged right p a (raise 0 d c)) ≡ write s o (tagged right p a (raise j d c))
+unfolding write tagged raisedIn
+any-handle s o p true a j d c = refl
+any-handle s o p false a j d c = refl
+
+pub by-counted : (s f o b : List ℕ) (k j d c u : ℕ) (z : Outcome) → d < countOf s 1 → b ≡ inner f → c ≡ counterOf (view b .aux)
+    → (c ≡ 0xffff_ffff → ⊥) → u ≡ counterAt (body s 1) d → u ≤ c → z ≡ unlocked s b o k d c → z ≡ settled s f o (Secure k j d)
+unfolding unlocked settled settle admit
+by-counted s f o b k j d c u z h e g n q l m =
+    let t : timeOf s f j d ≡ true = rw (store-counter s j d h, ← e, ← g) (counter-right (counterAt (body s 1) d) c u q n l) in
+    m ∙ any-handle s o _ _ _ j d c ∙ rw (t, store-key s k, store-extended s d h, g, e)
+
+pub counter-below : (c : ℕ) → (c ≡ 0xffff_ffff → ⊥) → c < 4294967296 → c < 4294967295
+counter-below c n h = omega arith
+
+pub inner-room : (f o b : List ℕ) → Fits (length o) f → b ≡ inner f → length b ≤ length o
+inner-room f o b fits e = omega (arith, inner-short f o b fits e, fits .room-is)
+
+-- ---- the whole
+pub on-refused : (s f o : List ℕ) (v : Judged) (x : Refusal) (r : Received) → v ≡ judged (tablesOf s) (length o) f → v ≡ Refused x → r ≡ refusal x
+    → outcome r s o ≡ receivedValid s f o
+unfolding receivedValid verdict settle write
+on-refused s f o v x r d e a = rw (store-tables s, ← d, e, a)
+
+pub on-plain : (s f o : List ℕ) (v : Judged) (r : Received) (o′ : List ℕ) → v ≡ judged (tablesOf s) (length o) f → v ≡ Plain → Plainly f o r o′
+    → outcome r s o′ ≡ receivedValid s f o
+unfolding receivedValid verdict settle write raisedIn
+on-plain s f o v r o′ d e p = rw (store-tables s, ← d, e, p .answer, p .out)
+
+pub on-secure : (s f o : List ℕ) (v : Judged) (k j d : ℕ) (z : Outcome) → v ≡ judged (tablesOf s) (length o) f → v ≡ Secure k j d
+    → z ≡ settled s f o (Secure k j d) → z ≡ receivedValid s f o
+unfolding receivedValid verdict settled
+on-secure s f o v k j d z g e p = p ∙ rw (store-tables s, ← g, e)
+
+-- the key and the device of a secured frame stand in their tables
+pub secured-in : (s f : List ℕ) (room k j d : ℕ) → siteRule s ≡ true → judged (tablesOf s) room f ≡ Secure k j d
+    → (k < countOf s 3) × ((d < countOf s 1) × Fits room f)
+unfolding tablesOf keyOf handleOf widthOf
+secured-in s f room k j d rule e =
+    let w = secure-fits (tablesOf s) room f k j d e in
+    let x = w .1 in
+    let i : x .row < countOf s 4 = rw (records-is s rule 4 (omega arith) (omega arith)) at (x .row-below) in
+    let n : j < countOf s 6 = rw (records-is s rule 6 (omega arith) (omega arith)) at (x .handle-below) in
+    (rw (x .key) (rule-lookups s rule (x .row) i), (rw (x .device) (rule-handles s rule j n), w .0))
+
+-- 1
+pub on-site : (s f o : List ℕ) (u : Bool) (z : Outcome) → u ≡ siteRule s → u ≡ true → z ≡ receivedValid s f o → z ≡ received s f o
+unfolding received
+on-site s f o u z d e g = rw (← d, e) g
+
+pub off-site : (s f o : List ℕ) (u : Bool) (r : Received) → u ≡ siteRule s → u ≡ false → r ≡ refusal Site → outcome r s o ≡ received s f o
+unfolding received
+off-site s f o u r d e g = rw (← d, e, g)

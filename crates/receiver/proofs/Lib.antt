@@ -1,4 +1,4 @@
-pub mod Stages
+pub mod Checks
 pub mod Bodies
 pub mod Commits
 pub mod Openings

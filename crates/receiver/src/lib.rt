@@ -10,7 +10,9 @@ ghost use Rattle.meaning.specs.Frame.{cutsOf, view, levelOf, counterOf, tagLen,
 ghost use Rattle.meaning.specs.Site.{countOf, siteRule};
 ghost use Rattle.meaning.specs.Receive.{refusal, report, outcome, receivedValid, received};
 ghost use Rattle.meaning.specs.Room.{Fits};
-ghost use Rattle.receiver.specs.Parts.{Plainly, Unsecured, keyMode, keyOfSite, extendedOf, settled};
+ghost use Rattle.aes.specs.Schedule.{cipherBy};
+ghost use Rattle.receiver.specs.Parts.{Plainly, Unsecured, OpenedWith, nonceIn, keyMode, keyOfSite, extendedOf, committed, unlocked, settled};
+use aes::Schedule;
 use meaning::Address;
 use meaning::Cuts;
 use meaning::Header;
@@ -18,6 +20,7 @@ use meaning::Judged;
 use meaning::Received;
 use meaning::Refusal;
 
+mod stages;
 
 // A refusal's answer: its number, and zero elsewhere.
 fn refused(r: Refusal) -> Received
@@ -110,3 +113,168 @@ fn counter_in(body: &[u8]) -> u32
     frame::counter_of(frame::part_of(body, c.head, c.aux))
 }
 
+// The nonce of a frame without FCS: the device record's extended address, the frame's counter and level.
+fn nonce_of(site: &[u8], body: &[u8], device: usize) -> [u8; 13]
+    requires { ⌜ siteRule (now site) ≡ true ⌝ }
+    requires { ⌜ device < countOf (now site) 1 ⌝ }
+    ensures { λ r. ⌜ r ≡ nonceIn (now (site .entry)) (now (body .entry)) device ⌝ }
+{
+    let c = frame::cuts(body);
+    let level = frame::level_in(body, c);
+    ccm::nonce(site::device_extended(site, device), counter_in(body), level)
+}
+
+// Opens a frame without FCS under a key's schedule and a nonce, into the scratch; nothing else that is lent changes.
+fn open_with(
+    sbox: &[u8; 256],
+    w: &Schedule,
+    nonce: [u8; 13],
+    body: &[u8],
+    scratch: &mut [u8],
+) -> bool
+    requires { ⌜ IsSbox (now sbox) ⌝ }
+    requires { ⌜ openEnd (cutsOf (now body)) + tagLen (levelOf (view (now body) .aux)) ≤ length (now body) ⌝ }
+    requires { ⌜ length (now body) ≤ 125 ⌝ }
+    requires { ⌜ 125 ≤ length (now scratch) ⌝ }
+    ensures { λ r. ⌜ OpenedWith (cipherBy (now (w .entry))) nonce (now (body .entry)) (now (scratch .entry)) r (now (scratch .exit)) ⌝ }
+{
+    let c = frame::cuts(body);
+    let opens = c.head + c.aux + c.opens;
+    let level = frame::level_in(body, c);
+    let private = body.len() - opens - frame::tag_len(level);
+    ccm::unseal(sbox, w, nonce, level, body, opens, private, scratch)
+}
+
+// Deciphers the private payload to the front of the scratch, and tells whether the tag is right; nothing else that is lent changes.
+fn unsecure(
+    sbox: &[u8; 256],
+    site: &[u8],
+    body: &[u8],
+    key: usize,
+    device: usize,
+    scratch: &mut [u8],
+) -> bool
+    requires { ⌜ IsSbox (now sbox) ⌝ }
+    requires { ⌜ siteRule (now site) ≡ true ⌝ }
+    requires { ⌜ key < countOf (now site) 3 ⌝ }
+    requires { ⌜ device < countOf (now site) 1 ⌝ }
+    requires { ⌜ openEnd (cutsOf (now body)) + tagLen (levelOf (view (now body) .aux)) ≤ length (now body) ⌝ }
+    requires { ⌜ length (now body) ≤ 125 ⌝ }
+    requires { ⌜ 125 ≤ length (now scratch) ⌝ }
+    ensures { λ r. ⌜ Unsecured (keyOfSite (now (site .entry)) key) (extendedOf (now (site .entry)) device) (now (body .entry)) (now (scratch .entry)) r (now (scratch .exit)) ⌝ }
+{
+    let octets = frame::part_of(site::table(site, 3), 16 * key, 16);
+    let w = aes::schedule(sbox, octets);
+    open_with(sbox, &w, nonce_of(site, body, device), body, scratch)
+}
+
+// The only place where a secured frame changes anything: the output's front, and the device's counter.
+fn commit(
+    site: &mut [u8],
+    body: &[u8],
+    out: &mut [u8],
+    scratch: &[u8; 127],
+    device: usize,
+    counter: u32,
+) -> Received
+    requires { ⌜ siteRule (now site) ≡ true ⌝ }
+    requires { ⌜ device < countOf (now site) 1 ⌝ }
+    requires { ⌜ counter < 4294967295 ⌝ }
+    requires { ⌜ openEnd (cutsOf (now body)) + tagLen (levelOf (view (now body) .aux)) ≤ length (now body) ⌝ }
+    requires { ⌜ length (now body) ≤ length (now out) ⌝ }
+    ensures { λ r. ⌜ outcome r (now (site .exit)) (now (out .exit)) ≡ committed (now (site .entry)) (now (body .entry)) (now (out .entry)) (now (scratch .entry)) device counter ⌝ }
+{
+    let answer = accepted(body, device + 1);
+    octets::copy_in(out, 0, frame::part_of(&scratch[..], 0, answer.private));
+    site::raise_device(site, device, counter);
+    answer
+}
+
+// 15: the tag is known before anything lent is written.
+fn unlock(
+    sbox: &[u8; 256],
+    site: &mut [u8],
+    body: &[u8],
+    out: &mut [u8],
+    key: usize,
+    device: usize,
+    counter: u32,
+) -> Received
+    requires { ⌜ IsSbox (now sbox) ⌝ }
+    requires { ⌜ siteRule (now site) ≡ true ⌝ }
+    requires { ⌜ key < countOf (now site) 3 ⌝ }
+    requires { ⌜ device < countOf (now site) 1 ⌝ }
+    requires { ⌜ counter < 4294967295 ⌝ }
+    requires { ⌜ openEnd (cutsOf (now body)) + tagLen (levelOf (view (now body) .aux)) ≤ length (now body) ⌝ }
+    requires { ⌜ length (now body) ≤ 125 ⌝ }
+    requires { ⌜ length (now body) ≤ length (now out) ⌝ }
+    ensures { λ r. ⌜ outcome r (now (site .exit)) (now (out .exit)) ≡ unlocked (now (site .entry)) (now (body .entry)) (now (out .entry)) key device counter ⌝ }
+{
+    let mut scratch = [0u8; 127];
+    if unsecure(sbox, &site[..], body, key, device, &mut scratch) {
+        return commit(site, body, out, &scratch, device, counter);
+    }
+    refused(Refusal::SecurityError)
+}
+
+// 14, and then 15.
+fn settle(
+    sbox: &[u8; 256],
+    site: &mut [u8],
+    frame: &[u8],
+    out: &mut [u8],
+    key: usize,
+    handle: usize,
+    device: usize,
+) -> Received
+    requires { ⌜ IsSbox (now sbox) ⌝ }
+    requires { ⌜ siteRule (now site) ≡ true ⌝ }
+    requires { ⌜ key < countOf (now site) 3 ⌝ }
+    requires { ⌜ device < countOf (now site) 1 ⌝ }
+    requires { ⌜ Fits (length (now out)) (now frame) ⌝ }
+    ensures { λ r. ⌜ outcome r (now (site .exit)) (now (out .exit)) ≡ settled (now (site .entry)) (now (frame .entry)) (now (out .entry)) (Judged.Secure key handle device) ⌝ }
+{
+    let body = body_of(frame);
+    let counter = counter_in(body);
+    if counter == 0xffff_ffff {
+        return refused(Refusal::CounterError);
+    }
+    if counter < site::device_counter(&site[..], device) {
+        return refused(Refusal::CounterError);
+    }
+    unlock(sbox, site, body, out, key, device, counter)
+}
+
+// Receives a frame on a site that holds its rules, with the two tables lent: the answer, and what the site and the output then hold.
+pub fn receive_valid(
+    sums: &[u16; 256],
+    sbox: &[u8; 256],
+    site: &mut [u8],
+    frame: &[u8],
+    out: &mut [u8],
+) -> Received
+    requires { ⌜ IsTable (now sums) ⌝ }
+    requires { ⌜ IsSbox (now sbox) ⌝ }
+    requires { ⌜ siteRule (now site) ≡ true ⌝ }
+    ensures { λ r. ⌜ outcome r (now (site .exit)) (now (out .exit)) ≡ receivedValid (now (site .entry)) (now (frame .entry)) (now (out .entry)) ⌝ }
+{
+    let room = out.len();
+    match stages::judge(sums, &site[..], room, frame) {
+        Judged::Refused(r) => refused(r),
+        Judged::Plain => accept_plain(frame, out),
+        Judged::Secure(key, handle, device) => settle(sbox, site, frame, out, key, handle, device),
+    }
+}
+
+// Receives a frame: any site, frame and output, of any content and length. A refusal returns its number and zero elsewhere, and
+// changes nothing lent. A success puts the plain private payload to the front of the output and, if secured, raises the device's counter.
+pub fn receive(site: &mut [u8], frame: &[u8], out: &mut [u8]) -> Received
+    ensures { λ r. ⌜ outcome r (now (site .exit)) (now (out .exit)) ≡ received (now (site .entry)) (now (frame .entry)) (now (out .entry)) ⌝ }
+{
+    if site::site_holds(&site[..]) {
+        let sums = fcs::table();
+        let sbox = aes::sbox_table();
+        return receive_valid(&sums, &sbox, site, frame, out);
+    }
+    refused(Refusal::Site)
+}

@@ -18,20 +18,20 @@ abbrev μ-loop : tie.MeasureT-loop
 μ-loop t w sized s n y₀ at₀ y at = n + 16 - at
 
 loop-holds : tie.Need-loop-holds Inv-loop μ-loop
-loop-holds c = 
+loop-holds c =
     let a = c .before .before .args in
     let l : length (led (a .sized) (a .s .now)) < 65538 = omega (arith, length-led (a .sized) (a .s .now)) in
     (c .led-len .ensures, omega (arith, c .led-len .ensures), omega arith, chained-none _ _ _)
 
 loop-again : tie.Need-loop-again Inv-loop μ-loop
-loop-again c = 
+loop-again c =
     let at = c .before .before .before in
     let inv = at .loop .inv in
     let l = inv .0 in
     (l, inv .1, omega arith, chained-more _ _ _ (at .loop .at) (at .loop .y) _ _ (inv .3) (omega arith) (c .before .block-sum .ensures) (c .encrypt-with .ensures))
 
 returns : tie.Need-returns Inv-loop μ-loop
-returns c = 
+returns c =
     let inv = c .before .loop .inv in
     let l = inv .0 in
     chained-end _ _ _ (c .before .loop .at) (c .before .loop .y) (inv .3) (omega arith)

@@ -23,14 +23,14 @@ loop-holds : tie.Need-loop-holds Inv-loop μ-loop
 loop-holds c = (omega arith, mapped-none _ _, kept-none _ _ _)
 
 loop-again : tie.Need-loop-again Inv-loop μ-loop
-loop-again c = 
+loop-again c =
     let at = c .before .before .before in
     let a = at .before .before .args in
     let i = at .loop .i in
     let key = c .before .if1 .key in
     let E = cipherBy (a .w .now) in
     let k : key ≡ E (counterBlock (a .nonce) (i / 16 + 1)) =
-        ⊎-elim (λ x. x .3 ∙ x .2 .ensures ∙ ap E (x .1 .ensures)) (λ x. x .1 ∙ at .loop .inv .2 .inside (x .0 .left)) (c .before .if1 .came) in (
+    ⊎-elim (λ x. x .3 ∙ x .2 .ensures ∙ ap E (x .1 .ensures)) (λ x. x .1 ∙ at .loop .inv .2 .inside (x .0 .left)) (c .before .if1 .came) in (
       omega arith,
       mapped-more _ (a .message .now) (at .loop .message) i _ (at .loop .inv .1) (omega arith)
           (added-by E (a .nonce) (a .message .now) key i _ (at .loop .inv .1 .rest i (omega arith)) k),
@@ -41,7 +41,7 @@ same-length : tie.Need-same-length Inv-loop μ-loop
 same-length c = c .before .loop .inv .1 .long
 
 returns : tie.Need-returns Inv-loop μ-loop
-returns c = 
+returns c =
     let a = c .before .before .before .args in
     mapped-all _ _ (c .before .loop .message) (c .before .loop .i) (c .before .loop .inv .1) (omega arith)
     ∙ added-all (cipherBy (a .w .now)) (a .nonce) (length-by (a .w .now)) (a .message .now)

@@ -5,13 +5,13 @@ use Rattle.ccm.proofs.crypt_at.Statement.{statement}
 use Rattle.ccm.proofs.crypt_at.Tie as tie
 
 returns : tie.Need-returns
-returns c = 
+returns c =
     let k = c .before .before in
     let a = k .before .before .before .before .args in
     crypt-on _ (a .nonce) (a .level) (a .message .now) (k .before .before .if1 .taken) (k .crypt .ensures)
 
 returns-2 : tie.Need-returns-2
-returns-2 c = 
+returns-2 c =
     let a = c .before .before .args in
     crypt-off _ (a .nonce) (a .level) (a .message .now) (c .if1 .left)
 

@@ -9,7 +9,7 @@ use Rattle.ccm.proofs.first_block.Tie as tie
 
 returns : tie.Need-returns
 unfolding firstBlock
-returns c = 
+returns c =
     let a = c .before .before .args in
     c .numbered .ensures ∙ ap (λ (f : ℕ). f ∷ (a .nonce ++ size16 (a .k))) (c .before .flags .ensures)
 

@@ -10,7 +10,7 @@ use Rattle.ccm.proofs.frame_tag.Statement.{statement}
 use Rattle.ccm.proofs.frame_tag.Tie as tie
 
 returns : tie.Need-returns
-returns c = 
+returns c =
     let a = c .before .before .before .args in
     c .tag-at .ensures
     ∙ ap (λ (q : List ℕ). tagBy (cipherBy (a .w .now)) (a .nonce) (a .level) (a .frame .now) (a .opens) q) (rest (a .opens) (a .frame .now))

@@ -5,7 +5,7 @@ use Rattle.ccm.proofs.seal.Statement.{statement}
 use Rattle.ccm.proofs.seal.Tie as tie
 
 returns : tie.Need-returns
-returns c = 
+returns c =
     let k = c .before .before in
     let g = k .before .before in
     let start = g .before .before .before in

@@ -7,7 +7,7 @@ use Rattle.ccm.proofs.tag.Statement.{statement}
 use Rattle.ccm.proofs.tag.Tie as tie
 
 returns : tie.Need-returns
-returns c = 
+returns c =
     let s = c .before .before in
     let z = s .before .before in
     let x = z .before .before in

@@ -11,12 +11,12 @@ use Rattle.ccm.proofs.tag_at.Statement.{statement}
 use Rattle.ccm.proofs.tag_at.Tie as tie
 
 slice-aggregate-tag : tie.Need-slice-aggregate-tag
-slice-aggregate-tag c = 
+slice-aggregate-tag c =
     let a = c .before .before .before .before .before .args in
     taken (a .opens) (a .clear .now) (omega arith)
 
 tag-requires : tie.Need-tag-requires
-tag-requires c κs = 
+tag-requires c κs =
     let p = c .before .before in
     let start = p .before .before .before in
     let a = start .args in
@@ -24,19 +24,19 @@ tag-requires c κs =
     (start .pre .0, (omega (arith, p .tag-len .ensures, tagLen-le (a .level)), (omega (arith, n, start .pre .1 .0 .0, start .pre .1 .0 .1), start .pre .1 .1)))
 
 returns : tie.Need-returns
-returns c = 
+returns c =
     let p = c .before .before .before in
     let a = p .before .before .before .args in
     tag-on _ (a .nonce) (a .level) _ (a .clear .now) (a .opens) (a .text .now) (p .tag-len .ensures) (c .before .before .if1 .taken) (c .tag .ensures)
 
 tag-requires-2 : tie.Need-tag-requires-2
-tag-requires-2 c κs = 
+tag-requires-2 c κs =
     let p = c .before .before in
     let start = p .before .before .before in
     (start .pre .0, (omega (arith, p .tag-len .ensures, tagLen-le (start .args .level)), (start .pre .1 .0 .1, omega arith)))
 
 returns-2 : tie.Need-returns-2
-returns-2 c = 
+returns-2 c =
     let p = c .before .before .before in
     let a = p .before .before .before .args in
     tag-off _ (a .nonce) (a .level) _ (a .clear .now) (a .opens) (a .text .now) (p .tag-len .ensures) (c .before .before .if1 .left) (c .tag2 .ensures)

@@ -2,11 +2,12 @@
 use mathlib.Core.Path.{_≡_, refl, ap, sym, _∙_}
 use mathlib.Core.Bool.{Bool, true, false, _&&_, _||_, not}
 use mathlib.Core.List.{List}
-use Prim.Native.Nat.{ℕ, _+_, _-_, _*_, _/_, _≤_, _<_}
+use Prim.Native.Nat.{ℕ, _+_, _-_, _*_, _/_, _%_, _≤_, _<_}
 use native.Mathlib.Nat.{mul-div-cancel-left}
 use native.Mathlib.Omega.{arith}
 use lib.ListN.{length, getD, drop}
 use lib.Dec.{eqb}
+use borrow.Author.Tests.{eq-eqb, ne-eqb}
 use Rattle.meaning.specs.Octets.{tab}
 use Rattle.meaning.specs.Frame.{levelOf, modeOf, keyIndexOf}
 use Rattle.meaning.specs.Site.{widthOf, countOf, body, records, siteRule, settingsOf, deviceAt, Tables, tablesOf, securityOn}
@@ -37,14 +38,17 @@ use Rattle.meaning.specs.declared.Refusal.the-variants.{
   UnsupportedSecurity,
 }
 use Rattle.meaning.specs.declared.Address.{Address}
+use Rattle.meaning.specs.declared.Device.{Device}
 use Rattle.meaning.specs.declared.Header.{Header}
 use Rattle.meaning.specs.declared.Judged.{Judged}
 use Rattle.meaning.specs.declared.Judged.the-variants.{Refused, Plain, Secure}
-use Rattle.meaning.proofs.Tests.{through}
+use Rattle.meaning.proofs.Tests.{and-right}
+use Rattle.meaning.proofs.Lengths.{level-bound}
 use Rattle.meaning.proofs.Tabs.{length-tab}
 use Rattle.meaning.proofs.Sites.{length-body, device-of, rule-handles, rule-lookups}
 use Rattle.meaning.proofs.Ways.{level-below, key-below, device-below, handle-below}
 use Rattle.search.specs.Rows.{keyRowBy, implicitRow}
+use Rattle.search.proofs.Laws.{keySource-length}
 
 -- ---- a body has as many records as the table of contents says
 pub records-is : (s : List ℕ) → siteRule s ≡ true → (k : ℕ) → k < 7 → 0 < widthOf k → records (widthOf k) (body s k) ≡ countOf s k
@@ -165,7 +169,114 @@ level-in s ls kind command i u rule a e f =
 pub by-security : (s st : List ℕ) (h : Header) (xs os : List ℕ) (l : ℕ) (on : Bool) (z : Judged)
     → st ≡ settingsOf s → l ≡ levelOf xs → on ≡ securityOn st
     → z ≡ check (not (eqb (h .security) 1 && eqb l 0)) UnsupportedSecurity
-        (check (eqb l 0 || on) UnsupportedSecurity (split on (onLevel (tablesOf s) h xs os) Plain))
+    (check (eqb l 0 || on) UnsupportedSecurity (split on (onLevel (tablesOf s) h xs os) Plain))
     → z ≡ onSecurity (tablesOf s) h xs os
 unfolding onSecurity tablesOf
 by-security s st h xs os l on z a e f g = g ∙ rw (f, a, e)
+
+-- ---- fields
+pub by-on : (t : List ℕ) (x : ℕ) → x ≡ getD t 30 0 → eqb (x % 2) 1 ≡ securityOn t
+unfolding securityOn
+by-on t x e = rw e
+
+-- the exempt test, by the device read
+pub on-exempt : (ds : List ℕ) (d : ℕ) (x : Device) → x ≡ deviceAt ds d → x .exempt ≡ 1 → Plain ≡ check (eqb (deviceAt ds d .exempt) 1) ImproperSecurityLevel Plain
+unfolding check
+on-exempt ds d x e h = rw (eq-eqb (deviceAt ds d .exempt) 1 (rw e at h))
+
+pub off-exempt : (ds : List ℕ) (d : ℕ) (x : Device) → x ≡ deviceAt ds d → (x .exempt ≡ 1 → ⊥)
+    → Refused ImproperSecurityLevel ≡ check (eqb (deviceAt ds d .exempt) 1) ImproperSecurityLevel Plain
+unfolding check
+off-exempt ds d x e h = rw (ne-eqb (deviceAt ds d .exempt) 1 (rw e at h))
+
+-- ---- the same where the search found something
+pub found-handle : (s st : List ℕ) (h : Header) (key : ℕ) (p : Address) (hs ds : List ℕ) (u : Found) (j d : ℕ)
+    → siteRule s ≡ true → st ≡ settingsOf s → p ≡ peerOf st (h .source) → hs ≡ body s 6 → ds ≡ body s 1
+    → u ≡ handleRow hs (tab (deviceAt ds) (records 17 ds)) key p → u ≡ At j → d ≡ handleOf hs j → Secure key j d ≡ onDevice (tablesOf s) h key
+found-handle s st h key p hs ds u j d rule a b c e f g i = by-handles s st h key p hs ds u (At j) _ rule a b c e f g (at-handle hs key j d i)
+
+pub found-usage : (s : List ℕ) (h : Header) (os : List ℕ) (key command : ℕ) (us : List ℕ) (u : Found) (i : ℕ) (z : Judged)
+    → us ≡ body s 5 → command ≡ getD os 0 0 → u ≡ usageRow us key (h .kind) command → u ≡ At i
+    → z ≡ onDevice (tablesOf s) h key → z ≡ onUse (tablesOf s) h os key
+found-usage s h os key command us u i z a b e f g = by-usage s h os key command us u (At i) z a b e f (at-usage (tablesOf s) h key i z g)
+
+pub found-lookup : (s st : List ℕ) (h : Header) (xs os : List ℕ) (p : Address) (mode index : ℕ) (source ls : List ℕ) (u : Found) (i key : ℕ) (z : Judged)
+    → st ≡ settingsOf s → p ≡ peerOf st (h .source) → mode ≡ modeOf xs → index ≡ keyIndexOf xs
+    → source ≡ keySource st (drop 5 xs) mode → ls ≡ body s 4
+    → u ≡ keyRowBy ls mode index source p → u ≡ At i → key ≡ keyOf ls i → z ≡ onUse (tablesOf s) h os key → z ≡ onKey (tablesOf s) h xs os
+found-lookup s st h xs os p mode index source ls u i key z a b m n d c e f g k =
+    by-lookup s st h xs os p mode index source ls u (At i) z a b m n d c e f (at-lookup (tablesOf s) h os ls i key z g k)
+
+pub found-level : (s : List ℕ) (h : Header) (xs os ls : List ℕ) (command : ℕ) (u : Found) (i : ℕ) (z : Judged)
+    → ls ≡ body s 2 → command ≡ getD os 0 0 → u ≡ levelRow ls (h .kind) command → u ≡ At i
+    → z ≡ onPolicy (tablesOf s) h xs os i → z ≡ onLevel (tablesOf s) h xs os
+found-level s h xs os ls command u i z a b e f g = by-level s h xs os ls command u (At i) z a b e f (at-level (tablesOf s) h xs os i z g)
+
+module _ (s st : List ℕ) (h : Header) (p : Address) (ds : List ℕ) (u : Found) (d : ℕ) (x : Device)
+    (rule : siteRule s ≡ true) (a : st ≡ settingsOf s) (b : p ≡ peerOf st (h .source)) (c : ds ≡ body s 1)
+    (e : u ≡ deviceRow (tab (deviceAt ds) (records 17 ds)) p) (f : u ≡ At d) (g : x ≡ deviceAt ds d) where
+  found-by : (z : Judged) → z ≡ check (eqb (deviceAt ds d .exempt) 1) ImproperSecurityLevel Plain → z ≡ onExempt (tablesOf s) h
+  found-by z k = by-devices s st h p ds u (At d) z rule a b c e f (at-device s ds p u d _ z rule c e f refl k)
+
+  pub found-exempt : x .exempt ≡ 1 → Plain ≡ onExempt (tablesOf s) h
+  found-exempt k = found-by Plain (on-exempt ds d x g k)
+
+  pub found-bound : (x .exempt ≡ 1 → ⊥) → Refused ImproperSecurityLevel ≡ onExempt (tablesOf s) h
+  found-bound k = found-by _ (off-exempt ds d x g k)
+
+-- ---- what the searches ask
+pub source-short : (st given source : List ℕ) (mode : ℕ) → source ≡ keySource st given mode → length source ≤ 8
+source-short st given source mode e = rw e (keySource-length st given mode)
+
+pub row-in : (s ls : List ℕ) (i : ℕ) → siteRule s ≡ true → i < countOf s 2 → ls ≡ body s 2 → i < records 5 ls
+unfolding widthOf
+row-in s ls i rule h a =
+    let n : records 5 (body s 2) ≡ countOf s 2 = records-is s rule 2 (omega arith) (omega arith) in
+    rw (a, n) h
+
+pub level-lt : (xs : List ℕ) (l : ℕ) → l ≡ levelOf xs → l < 8
+level-lt xs l e = rw e (level-bound xs)
+
+-- ---- 10, by the tests on the way
+module _ (s : List ℕ) (h : Header) (xs os : List ℕ) (i : ℕ) (ls : List ℕ) (l : ℕ) (b : Bool) (a : ls ≡ body s 2) (e : l ≡ levelOf xs) (f : b ≡ passes ls i l) where
+  pub pass-plain : b ≡ true → l ≡ 0 → Plain ≡ onPolicy (tablesOf s) h xs os i
+  unfolding split
+  pass-plain p q = by-policy s h xs os i ls l b _ a e f (rw (p, eq-eqb l 0 q))
+
+  pub pass-key : (z : Judged) → b ≡ true → (l ≡ 0 → ⊥) → z ≡ onKey (tablesOf s) h xs os → z ≡ onPolicy (tablesOf s) h xs os i
+  unfolding split
+  pass-key z p q g = by-policy s h xs os i ls l b z a e f (rw (p, ne-eqb l 0 q) g)
+
+  pub fail-exempt : (v : Bool) (z : Judged) → b ≡ false → l ≡ 0 → v ≡ overrides ls i → v ≡ true → z ≡ onExempt (tablesOf s) h → z ≡ onPolicy (tablesOf s) h xs os i
+  unfolding split check
+  fail-exempt v z p q m n g = by-policy s h xs os i ls l b z a e f (rw (p, eq-eqb l 0 q, ← m, n) g)
+
+  pub fail-bound : (v : Bool) → b ≡ false → l ≡ 0 → v ≡ overrides ls i → v ≡ false → Refused ImproperSecurityLevel ≡ onPolicy (tablesOf s) h xs os i
+  unfolding split check
+  fail-bound v p q m n = by-policy s h xs os i ls l b _ a e f (rw (p, eq-eqb l 0 q, ← m, n))
+
+  pub fail-secure : b ≡ false → (l ≡ 0 → ⊥) → Refused ImproperSecurityLevel ≡ onPolicy (tablesOf s) h xs os i
+  unfolding split check
+  fail-secure p q = by-policy s h xs os i ls l b _ a e f (rw (p, ne-eqb l 0 q))
+
+-- ---- 8, by the tests on the way
+module _ (s st : List ℕ) (h : Header) (xs os : List ℕ) (l : ℕ) (on : Bool) (a : st ≡ settingsOf s) (e : l ≡ levelOf xs) (f : on ≡ securityOn st) where
+  pub level-none : l ≡ 0 → h .security ≡ 1 → Refused UnsupportedSecurity ≡ onSecurity (tablesOf s) h xs os
+  unfolding check
+  level-none p q = by-security s st h xs os l on _ a e f (rw (eq-eqb (h .security) 1 q, eq-eqb l 0 p))
+
+  pub open-on : (z : Judged) → l ≡ 0 → (h .security ≡ 1 → ⊥) → on ≡ true → z ≡ onLevel (tablesOf s) h xs os → z ≡ onSecurity (tablesOf s) h xs os
+  unfolding check split
+  open-on z p q n g = by-security s st h xs os l on z a e f (rw (ne-eqb (h .security) 1 q, eq-eqb l 0 p, n) g)
+
+  pub open-off : l ≡ 0 → (h .security ≡ 1 → ⊥) → on ≡ false → Plain ≡ onSecurity (tablesOf s) h xs os
+  unfolding check split
+  open-off p q n = by-security s st h xs os l on _ a e f (rw (ne-eqb (h .security) 1 q, eq-eqb l 0 p, n))
+
+  pub sealed-on : (z : Judged) → (l ≡ 0 → ⊥) → on ≡ true → z ≡ onLevel (tablesOf s) h xs os → z ≡ onSecurity (tablesOf s) h xs os
+  unfolding check split
+  sealed-on z p n g = by-security s st h xs os l on z a e f (rw (ne-eqb l 0 p, and-right (eqb (h .security) 1) false refl, n) g)
+
+  pub sealed-off : (l ≡ 0 → ⊥) → on ≡ false → Refused UnsupportedSecurity ≡ onSecurity (tablesOf s) h xs os
+  unfolding check
+  sealed-off p n = by-security s st h xs os l on _ a e f (rw (ne-eqb l 0 p, and-right (eqb (h .security) 1) false refl, n))
