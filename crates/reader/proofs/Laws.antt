@@ -7,13 +7,14 @@ use Prim.Native.Nat.{ℕ, zero, suc, _+_, _-_, _%_, _*_, _^_, _≤_, _<_}
 use native.Mathlib.Omega.{arith}
 use lib.ListN.{length, getD, List·getD-eq-default}
 use lib.Dec.{ltb, leb, eqb}
-use borrow.Author.Tests.{leb-true, leb-false, ltb-true, ltb-false, le-leb}
+use borrow.Author.Tests.{leb-true, leb-false, ltb-true, ltb-false, le-leb, eqb-true}
 use Rattle.meaning.specs.Octets.{pick, leAt}
 use Rattle.meaning.specs.Frame.{absent, addressLen, addressAt}
 use Rattle.meaning.specs.declared.Address.{Address}
 use Rattle.meaning.proofs.Scan.{pick-all}
 use Rattle.meaning.proofs.Numbers.{leAt-lt}
-use Rattle.reader.specs.Fields.{numberAt, placeAfter, fieldAt, rawOf, widthsOf, addressOf, destinationSpan, fieldsOf}
+use Rattle.reader.specs.Fields.{numberAt, placeAfter, fieldAt, rawOf, panLen, widthsOf, addressOf, destinationSpan, fieldsOf}
+use Rattle.reader.specs.declared.Widths.{Widths}
 use Rattle.reader.specs.declared.Raw.{Raw}
 use Rattle.reader.specs.declared.Fields.{Fields}
 
@@ -63,43 +64,91 @@ number-len s at m = go (eqb m 2) (eqb m 3)
     go false true = refl
     go false false = refl
 
-address-is : (h : List ℕ) (m p a pan number : ℕ) → pan < 65536 → pan ≡ leAt 2 h p → (eqb m 0 ≡ false → number ≡ leAt (addressLen m) h a) → addressOf m pan number ≡ addressAt h m p a
+address-is : (h : List ℕ) (m p a pan number : ℕ) → (eqb m 0 ≡ false → pan % 65536 ≡ leAt 2 h p) → (eqb m 0 ≡ false → number ≡ leAt (addressLen m) h a) → addressOf m pan number ≡ addressAt h m p a
 unfolding addressOf addressAt
-address-is h m p a pan number l e f = go (eqb m 0) f
+address-is h m p a pan number e f = go (eqb m 0) e f
   where
-    small : pan % 65536 ≡ leAt 2 h p
-    small = omega arith
-
-    go : (t : Bool) → (t ≡ false → number ≡ leAt (addressLen m) h a)
+    go : (t : Bool) → (t ≡ false → pan % 65536 ≡ leAt 2 h p) → (t ≡ false → number ≡ leAt (addressLen m) h a)
         → pick t absent (record { mode = m; pan = pan % 65536; address = number }) ≡ pick t absent (record { mode = m; pan = leAt 2 h p; address = leAt (addressLen m) h a })
-    go true f = refl
-    go false f = ap₂ (λ (x y : ℕ). record { mode = m; pan = x; address = y }) small (f refl)
+    go true e f = refl
+    go false e f = ap₂ (λ (x y : ℕ). record { mode = m; pan = x; address = y }) (e refl) (f refl)
 
 -- ---- what was read is right
+no-address : (m : ℕ) → m ≡ 0 → addressLen m ≡ 0
+unfolding addressLen
+no-address m e = rw e
+
+-- the octets of a PAN and an address, and of a PAN where there is an address
+spans : (m : ℕ) → panLen m 0 + addressLen m ≡ destinationSpan m
+unfolding panLen
+spans m = pick-all (λ (x : ℕ). x + addressLen m ≡ destinationSpan m) (eqb m 0) 0 2 (λ e. rw (e, no-address m (eqb-true m 0 e))) (λ e. rw e)
+
+pan-two : (m c : ℕ) → eqb m 0 ≡ false → eqb c 1 ≡ false → panLen m c ≡ 2
+unfolding panLen
+pan-two m c e f = rw (e, f)
+
+pan-none : (m c : ℕ) → eqb m 0 ≡ false → eqb c 1 ≡ true → panLen m c ≡ 0
+unfolding panLen
+pan-none m c e f = rw (e, f)
+
 module _ (h : List ℕ) (small : (i : ℕ) → getD h i 0 < 256) (d s c : ℕ) where
-  abbrev dpan : ℕ
-  dpan = pick (eqb d 0) 0 2
-
-  abbrev span : ℕ
-  span = pick (eqb s 0) 0 (pick (eqb c 1) 0 2)
-
   abbrev next : ℕ → ℕ → ℕ
   next at n = placeAfter (length h) at n
 
-  n₁ : Near h (next 2 1) 3
+  abbrev p₁ : ℕ
+  p₁ = next 2 1
+
+  abbrev p₂ : ℕ
+  p₂ = next p₁ (panLen d 0)
+
+  abbrev p₃ : ℕ
+  p₃ = next p₂ (addressLen d)
+
+  abbrev p₄ : ℕ
+  p₄ = next p₃ (panLen s c)
+
+  n₁ : Near h p₁ 3
   n₁ = near-after h 1 (here 2)
 
-  n₂ : Near h (next (next 2 1) dpan) (3 + dpan)
-  n₂ = near-after h dpan n₁
+  n₂ : Near h p₂ (3 + panLen d 0)
+  n₂ = near-after h (panLen d 0) n₁
 
-  n₃ : Near h (next (next (next 2 1) dpan) (addressLen d)) (3 + dpan + addressLen d)
-  n₃ = near-after h (addressLen d) n₂
+  n₃ : Near h p₃ (3 + destinationSpan d)
+  n₃ = let e : 3 + panLen d 0 + addressLen d ≡ 3 + destinationSpan d = omega (arith, spans d) in rw e at (near-after h (addressLen d) n₂)
 
-  n₄ : Near h (next (next (next (next 2 1) dpan) (addressLen d)) span) (3 + dpan + addressLen d + span)
-  n₄ = near-after h span n₃
+  n₄ : Near h p₄ (3 + destinationSpan d + panLen s c)
+  n₄ = near-after h (panLen s c) n₃
 
-  pub record Right (r : Raw) : Type 0 where
-    pub sequence : r .sequence .value % 256 ≡ getD h 2 0
-    pub destination : addressOf d (r .pan .value) (r .destination .value) ≡ addressAt h d 3 5
-    pub compressed : c ≡ 1 → addressOf s (r .pan .value) (r .source .value) ≡ addressAt h s 3 (3 + destinationSpan d)
-    pub whole : (c ≡ 1 → ⊥) → addressOf s (r .sourcepan .value) (r .source .value) ≡ addressAt h s (3 + destinationSpan d) (5 + destinationSpan d)
+  pan-is : (at : ℕ) {p : ℕ} → Near h p at → numberAt h p 2 % 65536 ≡ leAt 2 h at
+  unfolding numberAt
+  pan-is at n = let e : leAt 2 h at % 65536 ≡ leAt 2 h at = omega (arith, leAt-lt h small 2 at) in ap (λ (x : ℕ). x % 65536) (near-number h 2 n) ∙ e
+
+  address-at : (m : ℕ) {p : ℕ} (at : ℕ) → Near h p at → numberAt h p (addressLen m) ≡ leAt (addressLen m) h at
+  address-at m at n = near-number h (addressLen m) n ∙ number-len h at m
+
+  sequence-is : numberAt h 2 1 % 256 ≡ getD h 2 0
+  unfolding numberAt leAt
+  sequence-is = omega (arith, small 2)
+
+  destination-is : addressOf d (numberAt h p₁ 2) (numberAt h p₂ (addressLen d)) ≡ addressAt h d 3 5
+  destination-is =
+      address-is h d 3 5 (numberAt h p₁ 2) (numberAt h p₂ (addressLen d)) (λ e. pan-is 3 n₁)
+      (λ e. address-at d 5 (let w : 3 + panLen d 0 ≡ 5 = rw (pan-two d 0 e refl) in rw w at n₂))
+
+  abbrev at₃ : ℕ
+  at₃ = 3 + destinationSpan d
+
+  source-is : (t : Bool) → eqb c 1 ≡ t → addressOf s (pick t (numberAt h p₁ 2) (numberAt h p₃ (panLen s c))) (numberAt h p₄ (addressLen s)) ≡ pick t (addressAt h s 3 at₃) (addressAt h s at₃ (5 + destinationSpan d))
+  source-is true f =
+      address-is h s 3 at₃ (numberAt h p₁ 2) (numberAt h p₄ (addressLen s)) (λ e. pan-is 3 n₁)
+      (λ e. address-at s at₃ (let w : at₃ + panLen s c ≡ at₃ = omega (arith, pan-none s c e f) in rw w at n₄))
+  source-is false f =
+      address-is h s at₃ (5 + destinationSpan d) (numberAt h p₃ (panLen s c)) (numberAt h p₄ (addressLen s)) (λ e. rw (pan-two s c e f) (pan-is at₃ n₃))
+      (λ e. address-at s (5 + destinationSpan d) (let w : at₃ + panLen s c ≡ 5 + destinationSpan d = omega (arith, pan-two s c e f) in rw w at n₄))
+
+  -- what is made of the fields that were read
+  pub fields-are : (w : Widths) (r : Raw) (sequence pan : ℕ) (destination source : Address) → w ≡ widthsOf d s c → r ≡ rawOf h w → sequence ≡ r .sequence .value % 256
+      → destination ≡ addressOf d (r .pan .value) (r .destination .value) → pan ≡ pick (eqb c 1) (r .pan .value) (r .sourcepan .value) → source ≡ addressOf s pan (r .source .value)
+      → _≡_ {A = Fields} (record { sequence = sequence; destination = destination; source = source }) (fieldsOf h d s c)
+  unfolding widthsOf rawOf fieldAt fieldsOf
+  fields-are w r sequence pan destination source ew er es ed ep eo = rw (es, ed, eo, ep, er, ew, sequence-is, destination-is, source-is (eqb c 1) refl)

@@ -58,13 +58,17 @@ rawOf s w =
       source = f₅ s w;
     }
 
+-- the octets of a PAN, by its address's mode; compression drops it
+unfoldable pub panLen : ℕ → ℕ → ℕ
+panLen m c = pick (eqb m 0) 0 (pick (eqb c 1) 0 2)
+
 -- the octets of each address field, by the modes and the compression
 unfoldable pub widthsOf : ℕ → ℕ → ℕ → Widths
 widthsOf d s c =
     record {
-      destinationpan = pick (eqb d 0) 0 2;
+      destinationpan = panLen d 0;
       destination = addressLen d;
-      sourcepan = pick (eqb s 0) 0 (pick (eqb c 1) 0 2);
+      sourcepan = panLen s c;
       source = addressLen s;
     }
 

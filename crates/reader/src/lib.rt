@@ -5,8 +5,10 @@ use meaning::Address;
 ghost use mathlib.Core.Path.{_≡_};
 ghost use Prim.Native.Nat.{_<_, _%_};
 ghost use lib.ListN.{length};
+ghost use lib.Dec.{eqb};
+ghost use Rattle.meaning.specs.Octets.{pick};
 ghost use Rattle.meaning.specs.Frame.{addressLen};
-ghost use Rattle.reader.specs.Fields.{numberAt, fieldAt, readerAt, widthsOf, rawOf, addressOf, fieldsOf};
+ghost use Rattle.reader.specs.Fields.{numberAt, fieldAt, readerAt, panLen, widthsOf, rawOf, addressOf, fieldsOf};
 
 // A field that was read: its number, and the place after it.
 pub struct Field {
@@ -141,22 +143,27 @@ fn address_len(mode: u8) -> usize
     0
 }
 
+// The octets of a PAN, by its address's mode; compression drops it.
+fn pan_len(mode: u8, compression: u8) -> usize
+    ensures { λ r. ⌜ r ≡ panLen mode compression ⌝ }
+{
+    if mode == 0 {
+        return 0;
+    }
+    if compression == 1 {
+        return 0;
+    }
+    2
+}
+
 // The octets of each address field, by the two modes; compression drops the source PAN.
 fn widths_of(destination: u8, source: u8, compression: u8) -> Widths
     ensures { λ r. ⌜ r ≡ widthsOf destination source compression ⌝ }
 {
-    let destinationpan: usize = if destination == 0 { 0 } else { 2 };
-    let mut sourcepan: usize = 2;
-    if source == 0 {
-        sourcepan = 0;
-    }
-    if compression == 1 {
-        sourcepan = 0;
-    }
     Widths {
-        destinationpan: destinationpan,
+        destinationpan: pan_len(destination, 0),
         destination: address_len(destination),
-        sourcepan: sourcepan,
+        sourcepan: pan_len(source, compression),
         source: address_len(source),
     }
 }
@@ -191,6 +198,16 @@ fn address_of(mode: u8, pan: u64, number: u64) -> Address
     }
 }
 
+// The source PAN: under compression the first that stands.
+fn origin(compression: u8, pan: Field, sourcepan: Field) -> u64
+    ensures { λ r. ⌜ r ≡ pick (eqb compression 1) (pan .value) (sourcepan .value) ⌝ }
+{
+    if compression == 1 {
+        return pan.value;
+    }
+    sourcepan.value
+}
+
 // Sequence number and addresses.
 pub struct Fields {
     pub sequence: u8,
@@ -198,7 +215,7 @@ pub struct Fields {
     pub source: Address,
 }
 
-// The fields of a header, by its two modes and its compression, which makes the source PAN the destination's.
+// The fields of a header, by its two modes and its compression.
 pub fn read_fields(head: &[u8], destination: u8, source: u8, compression: u8) -> Fields
     ensures { λ r. ⌜ r ≡ fieldsOf (now (head .entry)) destination source compression ⌝ }
 {
@@ -206,12 +223,10 @@ pub fn read_fields(head: &[u8], destination: u8, source: u8, compression: u8) ->
     let sequence = raw.sequence;
     let pan = raw.pan;
     let to = raw.destination;
-    let sourcepan = raw.sourcepan;
     let from = raw.source;
-    let origin = if compression == 1 { pan.value } else { sourcepan.value };
     Fields {
         sequence: low8(sequence.value),
         destination: address_of(destination, pan.value, to.value),
-        source: address_of(source, origin, from.value),
+        source: address_of(source, origin(compression, pan, raw.sourcepan), from.value),
     }
 }
