@@ -18,6 +18,8 @@ pub fn read_header(head: &[u8]) -> Header
 {
     let compression = compression_of(head);
     let fields = reader::read_fields(head, destination_mode(head), source_mode(head), compression);
+    let destination = fields.destination;
+    let source = fields.source;
     Header {
         kind: type_of(head),
         security: security_of(head),
@@ -26,8 +28,8 @@ pub fn read_header(head: &[u8]) -> Header
         compression: compression,
         version: version_of(head),
         sequence: fields.sequence,
-        destination: fields.destination,
-        source: fields.source,
+        destination: destination,
+        source: source,
     }
 }
 
