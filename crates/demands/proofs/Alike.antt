@@ -4,34 +4,18 @@ use mathlib.Core.Path.{_≡_, refl, sym, ap, ap₂, _∙_}
 use Prim.Native.Nat.{ℕ, zero, suc, _+_, _*_, _≤_, _<_}
 use native.Mathlib.Omega.{arith}
 use mathlib.Core.Bool.{Bool, true, false, _&&_}
-use mathlib.Core.List.{List, [], _∷_}
-use lib.ListN.{length, getD, take, drop, drop-of-length-le, take-append-drop}
+use mathlib.Core.List.{List}
+use lib.ListN.{length, getD, take, drop}
 use lib.Seq.{sets, length-sets, getD-take, take-length, take-all}
 use lib.Dec.{leb, eqb}
-use Rattle.meaning.specs.Octets.{leAt, octs, part, tab, every}
-use Rattle.meaning.specs.Site.{
-  widthOf,
-  countOf,
-  placeOf,
-  startOf,
-  entryRight,
-  contentsRight,
-  body,
-  recordsRight,
-  siteRule,
-  counterAt,
-  settingsOf,
-  Tables,
-  tablesOf,
-  Store,
-  storeOf,
-}
-use Rattle.meaning.specs.Receive.{Raise, keep, raise, raisedIn}
+use Rattle.meaning.specs.Octets.{leAt, octs, tab}
+use Rattle.meaning.specs.Site.{widthOf, countOf, placeOf, startOf, entryRight, contentsRight, body, recordsRight, siteRule, counterAt, ownCounter, settingsOf, Tables, tablesOf, storeOf}
+use Rattle.meaning.specs.Receive.{raise, raisedIn}
 use Rattle.meaning.proofs.Lists.{take-pre, drop-pre, drop-more}
 use Rattle.meaning.proofs.Scan.{every-same}
 use Rattle.meaning.proofs.Stores.{take-sets, take-sets-lt, drop-sets}
 use Rattle.meaning.proofs.Numbers.{leAt-take, length-octs}
-use Rattle.meaning.proofs.Sites.{rule-long, rule-past, rule-apart}
+use Rattle.meaning.proofs.Sites.{rule-past, rule-apart}
 use Rattle.demands.specs.Secrecy.{keysAt, keysLen, AlikeSites}
 
 -- ---- equal tables of contents
@@ -156,13 +140,53 @@ module _ (s t : List ℕ) (rule : siteRule s ≡ true) (a : AlikeSites s t) wher
   unfolding storeOf
   counters-same = ap₂ (λ (b : List ℕ) (n : ℕ). tab (counterAt b) n) (body-before 1 (omega arith)) (count-same s t alike-contents 1 (omega arith))
 
+  own-same : storeOf s .own ≡ storeOf t .own
+  unfolding storeOf
+  own-same = ap ownCounter (body-before 0 (omega arith))
+
+  settings-same : storeOf s .tables .settings ≡ storeOf t .tables .settings
+  unfolding storeOf
+  settings-same = ap (λ (r : Tables). r .settings) alike-tables
+
 -- ---- whether they hold the rules or not
+pub alike-own : (s t : List ℕ) → AlikeSites s t → storeOf s .own ≡ storeOf t .own
+alike-own s t a = by (siteRule s) refl
+  where
+    by : (c : Bool) → siteRule s ≡ c → storeOf s .own ≡ storeOf t .own
+    by true e = own-same s t e a
+    by false e = ap (λ (r : List ℕ). storeOf r .own) (alike-broken s t e a)
+
+pub alike-settings : (s t : List ℕ) → AlikeSites s t → storeOf s .tables .settings ≡ storeOf t .tables .settings
+alike-settings s t a = by (siteRule s) refl
+  where
+    by : (c : Bool) → siteRule s ≡ c → storeOf s .tables .settings ≡ storeOf t .tables .settings
+    by true e = settings-same s t e a
+    by false e = ap (λ (r : List ℕ). storeOf r .tables .settings) (alike-broken s t e a)
+
 pub alike-counters : (s t : List ℕ) → AlikeSites s t → storeOf s .counters ≡ storeOf t .counters
 alike-counters s t a = by (siteRule s) refl
   where
     by : (c : Bool) → siteRule s ≡ c → storeOf s .counters ≡ storeOf t .counters
     by true e = counters-same s t e a
     by false e = ap (λ (r : List ℕ). storeOf r .counters) (alike-broken s t e a)
+
+-- the key octets stand at the same places in both
+keys-same : (s t : List ℕ) → AlikeSites s t → (keysAt t ≡ keysAt s) × (keysLen t ≡ keysLen s)
+keys-same s t a = by (siteRule s) refl
+  where
+    by : (c : Bool) → siteRule s ≡ c → (keysAt t ≡ keysAt s) × (keysLen t ≡ keysLen s)
+    by true e =
+        let h = alike-contents s t e a in (
+          keys-at t (alike-rule s t e a) ∙ sym (place-same s t h 3 (omega arith)) ∙ sym (keys-at s e),
+          keys-len t (alike-rule s t e a) ∙ ap (λ (n : ℕ). 16 * n) (sym (count-same s t h 3 (omega arith))) ∙ sym (keys-len s e),
+        )
+    by false e = let h = alike-broken s t e a in (ap keysAt (sym h), ap keysLen (sym h))
+
+-- so it is the same which of the two is named first
+pub alike-back : (s t : List ℕ) → AlikeSites s t → AlikeSites t s
+alike-back s t a =
+    let k = keys-same s t a in
+    record { lengths = sym (a .lengths); before = rw (k .0) (sym (a .before)); after = rw (k .0, k .1) (sym (a .after)) }
 
 -- ---- one counter raised in both
 module _ (s t : List ℕ) (rule : siteRule s ≡ true) (a : AlikeSites s t) (j d c : ℕ) (there : d < countOf s 1) where

@@ -17,3 +17,6 @@ pub mod Refusals
 pub mod Unique
 pub mod Computing
 pub mod Pairs
+pub mod Symmetric
+pub mod Useless
+pub mod Honest

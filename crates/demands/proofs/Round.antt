@@ -36,7 +36,7 @@ body-octets : (s : List ℕ) (k : ℕ) → Octets s → Octets (body s k)
 unfolding body
 body-octets s k h = take-octets (widthOf k * countOf s k) (drop (placeOf s k) s) (drop-octets (placeOf s k) s h)
 
-settings-octets : (s : List ℕ) → Octets s → Octets (storeOf s .tables .settings)
+pub settings-octets : (s : List ℕ) → Octets s → Octets (storeOf s .tables .settings)
 unfolding storeOf tablesOf settingsOf
 settings-octets s h = take-octets 31 (body s 0) (body-octets s 0 h)
 

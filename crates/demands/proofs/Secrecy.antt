@@ -1,20 +1,20 @@
 -- Demand 3 holds. Two frames that pair up have the same division, so they are judged alike; where both reach the tag their verdicts agree;
 -- so what is written differs at most in the private payload, and the sites stay alike. Then by induction over the lists. Assumes nothing.
-use mathlib.Core.Path.{_≡_, refl, sym, ap, ap₂, _∙_, subst}
+use mathlib.Core.Path.{_≡_, refl, sym, ap, _∙_, subst}
 use mathlib.Core.Logic.{_⊎_, inl, inr, ⊎-elim}
-use Prim.Native.Nat.{ℕ, zero, suc, _+_, _-_, _≤_, _<_, max, min}
+use Prim.Native.Nat.{ℕ, suc, _+_, _-_, _<_, max}
 use native.Mathlib.Nat.{le-max-left}
 use native.Mathlib.Omega.{arith}
 use mathlib.Core.Bool.{Bool, true, false}
-use mathlib.Core.List.{List, [], _∷_, _++_}
-use mathlib.Core.Option.{Option, none, some}
+use mathlib.Core.List.{List, [], _∷_}
+use mathlib.Core.Option.{none, some}
 use lib.ListN.{length, getD, take, drop, length-append, length-take, length-drop}
 use lib.Dec.{leb, eqb}
 use Rattle.meaning.specs.Octets.{pick, part, beside}
 use Rattle.meaning.specs.Status.{number}
-use Rattle.meaning.specs.Frame.{levelOf, counterOf, openCount, View, view, cutsOf, openEnd, privateLen}
+use Rattle.meaning.specs.Frame.{counterOf, View, view, cutsOf, openEnd, privateLen}
 use Rattle.meaning.specs.Fcs.{inner, fcsRight}
-use Rattle.meaning.specs.Site.{widthOf, countOf, body, siteRule, Store, tablesOf, storeOf, keyAt}
+use Rattle.meaning.specs.Site.{widthOf, countOf, siteRule, Store, tablesOf, storeOf, keyAt}
 use Rattle.meaning.specs.Steps.{noDevice, handleOf}
 use Rattle.meaning.specs.Cipher.{cipher}
 use Rattle.meaning.specs.Ccm.{Opened}
@@ -45,7 +45,6 @@ use Rattle.meaning.specs.Receive.{
 }
 use Rattle.meaning.specs.declared.Refusal.{Refusal}
 use Rattle.meaning.specs.declared.Refusal.the-variants.{Site}
-use Rattle.meaning.specs.declared.Received.{Received}
 use Rattle.meaning.specs.declared.Judged.{Judged}
 use Rattle.meaning.specs.declared.Judged.the-variants.{Refused, Plain, Secure}
 use Rattle.meaning.proofs.Lists.{take-pre, take-comm, drop-pre, drop-more, over}
@@ -53,7 +52,7 @@ use Rattle.meaning.proofs.Frame.{view-same, open-end}
 use Rattle.meaning.proofs.Ccm.{length-text}
 use Rattle.meaning.proofs.Ways.{secure-fits}
 use Rattle.meaning.proofs.Sites.{length-body, rule-handles, raised-rule}
-use Rattle.demands.specs.Secrecy.{keysAt, keysLen, AlikeSites, span, outside, tagAt, tagSeen, AlikeFrames, Paired, Agreed, Agree, Secret}
+use Rattle.demands.specs.Secrecy.{AlikeSites, span, outside, tagAt, tagSeen, AlikeFrames, Paired, Agreed, Agree, Secret}
 use Rattle.demands.proofs.Alike.{alike-broken, alike-rule, alike-tables, alike-counters, raised-alike}
 
 -- ---- lengths
@@ -86,7 +85,7 @@ span-cases : (status : ℕ) (f : List ℕ)
 unfolding span
 span-cases status f = picked (eqb status 0) (leb status 3) (leb status 7) _ _ _
 
-span-open : (status : ℕ) (f : List ℕ) → status ≡ 0 → span status f ≡ openEnd (cutsOf (inner f))
+pub span-open : (status : ℕ) (f : List ℕ) → status ≡ 0 → span status f ≡ openEnd (cutsOf (inner f))
 unfolding span
 span-open status f e = rw e
 
@@ -161,10 +160,11 @@ near-settle σ τ v n b b′ (Secure k j d) c l l′ h e =
     (opened-long _ _ v b l) (opened-long _ _ v b′ l′) (h k j d refl))
 
 -- ---- what both write
-record Standing (m : ℕ) (s t o p : List ℕ) : Type 0 where
-  sites : AlikeSites s t
-  rooms : length o ≡ length p
-  outs : drop m o ≡ drop m p
+-- two receivers between frames: m is the longest private payload accepted so far
+pub record Standing (m : ℕ) (s t o p : List ℕ) : Type 0 where
+  pub sites : AlikeSites s t
+  pub rooms : length o ≡ length p
+  pub outs : drop m o ≡ drop m p
 
 kept-both : (s t : List ℕ) → AlikeSites s t → AlikeSites (raisedIn keep s) (raisedIn keep t)
 unfolding raisedIn
@@ -237,7 +237,7 @@ unfolding judged storeOf
 judged-same s t f g o p et l c ev r = rw (et, l, c, ev, r)
 
 module _ (m : ℕ) (s t f g o p : List ℕ) (st : Standing m s t o p) (a : AlikeFrames s t f g o p) where
-  same-view : view (inner f) ≡ view (inner g)
+  pub same-view : view (inner f) ≡ view (inner g)
   unfolding outside
   same-view = view-alike f g (a .lengths) (received s f o .answer .status) (a .octets)
 
@@ -273,7 +273,7 @@ module _ (m : ℕ) (s t f g o p : List ℕ) (st : Standing m s t o p) (a : Alike
       rw (as-broken s f o e, as-broken t g p (ap siteRule (sym (alike-broken s t e (st .sites))) ∙ e))
       (both-refuse m s t f g o p Site st)
 
-  one : Agreed (max m (received s f o .answer .private)) f g (received s f o) (received t g p)
+  pub one : Agreed (max m (received s f o .answer .private)) f g (received s f o) (received t g p)
   one = by (siteRule s) refl
     where
       by : (c : Bool) → siteRule s ≡ c → Agreed (max m (received s f o .answer .private)) f g (received s f o) (received t g p)

@@ -86,7 +86,7 @@ fieldsOf h d s c =
       sequence = getD h 2 0;
       destination = addressAt h d 3 5;
       source =
-        pick (eqb c 1)
-        (addressAt h s 3 (3 + destinationSpan d))
-        (addressAt h s (3 + destinationSpan d) (5 + destinationSpan d));
+          pick (eqb c 1)
+          (addressAt h s 3 (3 + destinationSpan d))
+          (addressAt h s (3 + destinationSpan d) (5 + destinationSpan d));
     }

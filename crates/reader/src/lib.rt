@@ -38,10 +38,7 @@ pub fn field_at(src: &[u8], at: usize, n: usize) -> Field
     ensures { λ r. ⌜ r ≡ fieldAt (now (src .entry)) at n ⌝ }
 {
     if src.len() <= at {
-        return Field {
-            value: 0,
-            next: at,
-        };
+        return Field { value: 0, next: at };
     }
     let value = number_at(src, at, n);
     if src.len() - at < n {
