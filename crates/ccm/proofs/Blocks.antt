@@ -1,16 +1,15 @@
 -- The blocks that are authenticated, octet by octet: what the code reads is what the definitions say. Assumes nothing.
-use mathlib.Core.Path.{_≡_, refl, sym, ap, ap₂, _∙_}
+use mathlib.Core.Path.{_≡_, refl, sym}
 use mathlib.Core.Bool.{Bool, true, false}
-use mathlib.Core.List.{List, [], _∷_, _++_}
-use Prim.Native.Nat.{ℕ, suc, _+_, _-_, _*_, _/_, _%_, _≤_, _<_}
+use mathlib.Core.List.{List}
+use Prim.Native.Nat.{ℕ, suc, _+_, _-_, _*_, _/_, _%_, _≤_}
 use native.Mathlib.Omega.{arith}
 use borrow.Author.Tests.{eq-eqb, ne-eqb}
-use lib.Bits.{bitXor}
 use lib.ListN.{length, getD}
 use Rattle.meaning.specs.Octets.{tab}
 use Rattle.meaning.specs.Ccm.{size16, flagsOf}
 use Rattle.meaning.proofs.Tabs.{tab-of}
-use Rattle.ccm.specs.Tags.{led, sum}
+use Rattle.ccm.specs.Tags.{led}
 
 -- thirteen octets are a list of thirteen
 pub thirteen : (s : List ℕ) → length s ≡ 13 → tab (λ i. getD s i 0) 13 ≡ s

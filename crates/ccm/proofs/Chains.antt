@@ -1,9 +1,9 @@
 -- The chain over a list that is padded in thought only: for the loop that goes through it block by block, and for the tag that joins three of them.
 -- Assumes nothing.
 use mathlib.Core.Path.{_≡_, refl, sym, ap, ap₂, _∙_}
-use mathlib.Core.Bool.{Bool, true, false}
-use mathlib.Core.List.{List, [], _∷_, _++_}
-use Prim.Native.Nat.{ℕ, zero, suc, _+_, _-_, _*_, _/_, _%_, _≤_, _<_}
+use mathlib.Core.Bool.{true, false}
+use mathlib.Core.List.{List, [], _++_}
+use Prim.Native.Nat.{ℕ, suc, _+_, _-_, _*_, _/_, _%_, _≤_, _<_}
 use native.Mathlib.Nat.{sub-zero}
 use native.Mathlib.Omega.{arith}
 use borrow.Author.Tests.{eq-eqb, ne-eqb}
@@ -11,7 +11,6 @@ use lib.Bits.{bitXor}
 use lib.Dec.{eqb}
 use lib.ListN.{length, getD, take, drop, replicate, length-take, length-drop, length-append}
 use lib.Seq.{take-all, drop-drop, getD-take, getD-drop}
-use Rattle.meaning.specs.Octets.{pick}
 use Rattle.meaning.specs.Ccm.{xorBy, size16, padded, firstBlock, counterBlock, dataBlocks, blocksOf, chain, macOf}
 use Rattle.meaning.proofs.Scan.{pick-all}
 use Rattle.meaning.proofs.Tabs.{tab-of}

@@ -2,15 +2,15 @@
 -- Assumes nothing.
 use mathlib.Core.Path.{_≡_, refl, sym, ap, ap₂, _∙_}
 use mathlib.Core.Bool.{Bool, true, false}
-use mathlib.Core.List.{List, [], _∷_, _++_, append-nil}
+use mathlib.Core.List.{List, [], _++_, append-nil}
 use Prim.Native.Nat.{ℕ, _+_, _-_, _≤_, _<_}
 use native.Mathlib.Omega.{arith}
-use lib.ListN.{length, take, drop, length-take, length-drop, take-append-drop}
-use lib.Seq.{sets, length-sets, take-all, take-take, take-add, take-at, drop-length, length-take-le}
+use lib.ListN.{length, take, drop, length-drop, take-append-drop}
+use lib.Seq.{sets, take-all, take-take, take-add, take-at, drop-length, length-take-le}
 use borrow.Rule.Slice.PartMut.{putMid, post-is}
 use Rattle.meaning.specs.Octets.{pick, part, beside, same}
 use Rattle.meaning.specs.Frame.{tagLen, enciphers}
-use Rattle.meaning.specs.Ccm.{tagOf, crypt, Sealed, sealedBy, sealed, Opened, unsealedBy, unsealed}
+use Rattle.meaning.specs.Ccm.{tagOf, crypt, sealedBy, sealed, unsealedBy, unsealed}
 use Rattle.meaning.proofs.Tests.{on-le, off-le}
 use Rattle.meaning.proofs.Stores.{sets-beside, take-beside, drop-beside}
 use Rattle.meaning.proofs.Ccm.{length-crypt}
@@ -25,6 +25,11 @@ pub rest : (n : ℕ) (s : List ℕ) → take (length s - n) (drop n s) ≡ drop 
 rest n s = take-all (length s - n) (drop n s) (omega (arith, length-drop n s))
 
 module _ (E : List ℕ → List ℕ) (nonce : List ℕ) (l : ℕ) where
+  -- the tag is cut from the sixteen octets of `tag`
+  pub tag-cut : (m : ℕ) (a q : List ℕ) → take m (wholeTag E nonce m a q) ≡ tagOf E nonce m a q
+  unfolding wholeTag tagOf
+  tag-cut m a q = refl
+
   pub crypt-on : {r : List ℕ} (q : List ℕ) → 4 ≤ l → r ≡ crypt E nonce q → r ≡ cryptBy E nonce l q
   unfolding cryptBy enciphers
   crypt-on q h e = on-le 4 l _ _ _ h e

@@ -1,6 +1,6 @@
 -- `ccm::chain` meets its contract: the chain over the blocks that are left, from the value so far, is the whole chain. Assumes nothing.
-use mathlib.Core.Path.{_≡_, refl}
-use Prim.Native.Nat.{ℕ, _+_, _-_, _<_}
+use mathlib.Core.Path.{_≡_}
+use Prim.Native.Nat.{_+_, _-_, _<_}
 use native.Mathlib.Omega.{arith}
 use lib.ListN.{length}
 use Rattle.aes.specs.Schedule.{cipherBy}

@@ -1,7 +1,7 @@
 -- `ccm::crypt` meets its contract: after i turns the first i octets have the key stream added, and the block of it in use is kept. Assumes nothing.
-use mathlib.Core.Path.{_≡_, refl, ap, _∙_}
+use mathlib.Core.Path.{_≡_, ap, _∙_}
 use mathlib.Core.Logic.{⊎-elim}
-use Prim.Native.Nat.{ℕ, _+_, _-_, _/_, _≤_}
+use Prim.Native.Nat.{_+_, _-_, _/_, _≤_}
 use native.Mathlib.Omega.{arith}
 use lib.ListN.{length}
 use Rattle.meaning.specs.Ccm.{counterBlock}

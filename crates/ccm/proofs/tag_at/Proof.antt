@@ -1,6 +1,5 @@
 -- `ccm::tag_at` meets its contract: one law for the levels that encipher, and one for the others. Assumes nothing.
 use mathlib.Core.Path.{_≡_}
-use Prim.Native.Nat.{_≤_}
 use native.Mathlib.Omega.{arith}
 use lib.ListN.{length, take}
 use lib.Seq.{length-take-le}

@@ -1,7 +1,6 @@
 -- `ccm::tag_len` meets its contract: each return by the tests that led there. Assumes nothing.
 use Rattle.meaning.specs.Frame.{tagLen}
 use Rattle.meaning.proofs.Tests.{tests}
-use borrow.Author.Needs.{needs}
 use Rattle.ccm.proofs.tag_len.Statement.{statement}
 use Rattle.ccm.proofs.tag_len.Tie as tie
 
