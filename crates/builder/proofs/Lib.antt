@@ -1,0 +1,5 @@
+pub mod Joins
+pub mod Headers
+pub mod Sizes
+pub mod Puts
+pub mod Decisions

@@ -1,0 +1,3 @@
+pub mod Decided
+pub mod Stored
+pub mod Tags
