@@ -4,35 +4,18 @@ use mathlib.Core.Path.{_≡_, refl, sym, ap, ap₂, _∙_}
 use Prim.Native.Nat.{ℕ, zero, suc, _+_, _*_, _≤_, _<_}
 use native.Mathlib.Omega.{arith}
 use mathlib.Core.Bool.{Bool, true, false, _&&_}
-use mathlib.Core.List.{List, [], _∷_}
-use lib.ListN.{length, getD, take, drop, drop-of-length-le, take-append-drop}
+use mathlib.Core.List.{List}
+use lib.ListN.{length, getD, take, drop}
 use lib.Seq.{sets, length-sets, getD-take, take-length, take-all}
 use lib.Dec.{leb, eqb}
-use Rattle.meaning.specs.Octets.{leAt, octs, part, tab, every}
-use Rattle.meaning.specs.Site.{
-  widthOf,
-  countOf,
-  placeOf,
-  startOf,
-  entryRight,
-  contentsRight,
-  body,
-  recordsRight,
-  siteRule,
-  counterAt,
-  ownCounter,
-  settingsOf,
-  Tables,
-  tablesOf,
-  Store,
-  storeOf,
-}
-use Rattle.meaning.specs.Receive.{Raise, keep, raise, raisedIn}
+use Rattle.meaning.specs.Octets.{leAt, octs, tab}
+use Rattle.meaning.specs.Site.{widthOf, countOf, placeOf, startOf, entryRight, contentsRight, body, recordsRight, siteRule, counterAt, ownCounter, settingsOf, Tables, tablesOf, storeOf}
+use Rattle.meaning.specs.Receive.{raise, raisedIn}
 use Rattle.meaning.proofs.Lists.{take-pre, drop-pre, drop-more}
 use Rattle.meaning.proofs.Scan.{every-same}
 use Rattle.meaning.proofs.Stores.{take-sets, take-sets-lt, drop-sets}
 use Rattle.meaning.proofs.Numbers.{leAt-take, length-octs}
-use Rattle.meaning.proofs.Sites.{rule-long, rule-past, rule-apart}
+use Rattle.meaning.proofs.Sites.{rule-past, rule-apart}
 use Rattle.demands.specs.Secrecy.{keysAt, keysLen, AlikeSites}
 
 -- ---- equal tables of contents

@@ -1,10 +1,10 @@
 -- Honest runs meet demand 3's premise: two frames built for one request by senders that are alike, with private payloads of one length, pair up
 -- wherever both are accepted, whatever the keys, at every level. Their open octets come from request and settings alone. Assumes nothing.
-use mathlib.Core.Path.{_≡_, refl, sym, ap, ap₂, _∙_, subst}
+use mathlib.Core.Path.{_≡_, refl, sym, ap, _∙_}
 use Prim.Native.Nat.{ℕ, _+_, _≤_}
 use native.Mathlib.Omega.{arith}
 use mathlib.Core.Bool.{true}
-use mathlib.Core.List.{List, [], _∷_, _++_, append-assoc}
+use mathlib.Core.List.{List, _++_, append-assoc}
 use lib.ListN.{length, take, length-append}
 use lib.Seq.{take-at}
 use Rattle.meaning.specs.Frame.{tagLen, View, view, cutsOf, openEnd}
@@ -12,11 +12,10 @@ use Rattle.meaning.specs.Fcs.{inner, fcs, fcsRight}
 use Rattle.meaning.specs.Site.{Store, storeOf}
 use Rattle.meaning.specs.Receive.{Outcome, received}
 use Rattle.meaning.specs.Build.{headerBy, headOctets, auxOctets, withFcs, frameLen}
-use Rattle.meaning.specs.declared.Cuts.{Cuts}
 use Rattle.meaning.specs.declared.Judged.{Judged}
 use Rattle.meaning.specs.declared.Request.{Request}
 use Rattle.demands.specs.Round.{Octets, Ranged, Sent, frameSent, Taken, reportOf}
-use Rattle.demands.specs.Secrecy.{AlikeSites, span, outside, AlikeFrames}
+use Rattle.demands.specs.Secrecy.{AlikeSites, outside, AlikeFrames}
 use Rattle.demands.proofs.Asked.{Asked, asked}
 use Rattle.demands.proofs.Parts.{sealedSent, bodySent, cipher-long, tag-long}
 use Rattle.demands.proofs.Frames.{length-with, inner-with, right-with, shown, view-is}

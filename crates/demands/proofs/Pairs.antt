@@ -3,9 +3,8 @@
 -- verdict waits for the cipher. Assumes nothing.
 use mathlib.Core.Path.{_≡_, refl, ap}
 use mathlib.Core.Logic.{_≢_}
-use Prim.Native.Nat.{ℕ, zero, suc, _+_}
+use Prim.Native.Nat.{ℕ, _+_}
 use native.Mathlib.Omega.{arith}
-use mathlib.Core.Bool.{Bool, true, false}
 use mathlib.Core.List.{List, [], _∷_, _++_}
 use lib.ListN.{length, getD, take, drop, replicate}
 use Rattle.meaning.specs.Octets.{tab}
@@ -14,7 +13,7 @@ use Rattle.meaning.specs.Fcs.{inner, fcsRight}
 use Rattle.meaning.specs.Receive.{refusal, report, Raise, keep, raise, accept, opened, Outcome, outcome, write, received}
 use Rattle.meaning.specs.Build.{withFcs}
 use Rattle.meaning.specs.declared.Refusal.the-variants.{Fcs, Filtered, CounterError}
-use Rattle.demands.specs.Secrecy.{keysAt, keysLen, AlikeSites, span, outside, AlikeFrames, Paired, Agree, Secret}
+use Rattle.demands.specs.Secrecy.{keysAt, keysLen, AlikeSites, span, outside, Paired, Agree, Secret}
 use Rattle.demands.proofs.Secrecy.{secrecy, tags-by-status}
 use Rattle.demands.proofs.Computing.{computed}
 

@@ -1,7 +1,7 @@
 -- Demand 1, on the meaning: receiving and building give one listed status, and a refusal changes nothing lent. One place writes in each. Assumes nothing.
-use mathlib.Core.Path.{_≡_, refl, sym, ap, _∙_}
+use mathlib.Core.Path.{_≡_, refl}
 use mathlib.Core.Logic.{_⊎_, inl, inr, _≢_}
-use Prim.Native.Nat.{ℕ, zero, suc, _≤_}
+use Prim.Native.Nat.{ℕ, suc, _≤_}
 use native.Mathlib.Omega.{arith}
 use mathlib.Core.Bool.{Bool, true, false}
 use mathlib.Core.List.{List}
@@ -53,9 +53,7 @@ use Rattle.meaning.specs.declared.Refusal.the-variants.{
 }
 use Rattle.meaning.specs.declared.Judged.{Judged}
 use Rattle.meaning.specs.declared.Judged.the-variants.{Refused, Plain, Secure}
-use Rattle.meaning.specs.declared.Received.{Received}
 use Rattle.meaning.specs.declared.Request.{Request}
-use Rattle.meaning.specs.declared.Built.{Built}
 
 -- the numbers of refusals are 1 to 17
 pub listed : (r : Refusal) → (1 ≤ number r) × (number r ≤ 17)
@@ -141,6 +139,10 @@ status-of s o x (refused r) = inr (r, refl)
 pub one-listed-status : (s f o : List ℕ)
     → (received s f o .answer .status ≡ 0) ⊎ ((r : Refusal) × (received s f o .answer .status ≡ number r))
 one-listed-status s f o = status-of s o (received s f o) (receiving-ends s f o)
+
+pub status-at-most-17 : (s f o : List ℕ) → received s f o .answer .status ≤ 17
+status-at-most-17 s f o =
+    elim (one-listed-status s f o) [ inl e ↦ omega arith | inr w ↦ omega (arith, w .1, listed (w .0)) ]
 
 -- ---- building
 pub data Finishes (s out : List ℕ) : Construction → Type 0 where

@@ -1,20 +1,20 @@
 -- Demand 3 holds. Two frames that pair up have the same division, so they are judged alike; where both reach the tag their verdicts agree;
 -- so what is written differs at most in the private payload, and the sites stay alike. Then by induction over the lists. Assumes nothing.
-use mathlib.Core.Path.{_≡_, refl, sym, ap, ap₂, _∙_, subst}
+use mathlib.Core.Path.{_≡_, refl, sym, ap, _∙_, subst}
 use mathlib.Core.Logic.{_⊎_, inl, inr, ⊎-elim}
-use Prim.Native.Nat.{ℕ, zero, suc, _+_, _-_, _≤_, _<_, max, min}
+use Prim.Native.Nat.{ℕ, suc, _+_, _-_, _<_, max}
 use native.Mathlib.Nat.{le-max-left}
 use native.Mathlib.Omega.{arith}
 use mathlib.Core.Bool.{Bool, true, false}
-use mathlib.Core.List.{List, [], _∷_, _++_}
-use mathlib.Core.Option.{Option, none, some}
+use mathlib.Core.List.{List, [], _∷_}
+use mathlib.Core.Option.{none, some}
 use lib.ListN.{length, getD, take, drop, length-append, length-take, length-drop}
 use lib.Dec.{leb, eqb}
 use Rattle.meaning.specs.Octets.{pick, part, beside}
 use Rattle.meaning.specs.Status.{number}
-use Rattle.meaning.specs.Frame.{levelOf, counterOf, openCount, View, view, cutsOf, openEnd, privateLen}
+use Rattle.meaning.specs.Frame.{counterOf, View, view, cutsOf, openEnd, privateLen}
 use Rattle.meaning.specs.Fcs.{inner, fcsRight}
-use Rattle.meaning.specs.Site.{widthOf, countOf, body, siteRule, Store, tablesOf, storeOf, keyAt}
+use Rattle.meaning.specs.Site.{widthOf, countOf, siteRule, Store, tablesOf, storeOf, keyAt}
 use Rattle.meaning.specs.Steps.{noDevice, handleOf}
 use Rattle.meaning.specs.Cipher.{cipher}
 use Rattle.meaning.specs.Ccm.{Opened}
@@ -45,7 +45,6 @@ use Rattle.meaning.specs.Receive.{
 }
 use Rattle.meaning.specs.declared.Refusal.{Refusal}
 use Rattle.meaning.specs.declared.Refusal.the-variants.{Site}
-use Rattle.meaning.specs.declared.Received.{Received}
 use Rattle.meaning.specs.declared.Judged.{Judged}
 use Rattle.meaning.specs.declared.Judged.the-variants.{Refused, Plain, Secure}
 use Rattle.meaning.proofs.Lists.{take-pre, take-comm, drop-pre, drop-more, over}
@@ -53,7 +52,7 @@ use Rattle.meaning.proofs.Frame.{view-same, open-end}
 use Rattle.meaning.proofs.Ccm.{length-text}
 use Rattle.meaning.proofs.Ways.{secure-fits}
 use Rattle.meaning.proofs.Sites.{length-body, rule-handles, raised-rule}
-use Rattle.demands.specs.Secrecy.{keysAt, keysLen, AlikeSites, span, outside, tagAt, tagSeen, AlikeFrames, Paired, Agreed, Agree, Secret}
+use Rattle.demands.specs.Secrecy.{AlikeSites, span, outside, tagAt, tagSeen, AlikeFrames, Paired, Agreed, Agree, Secret}
 use Rattle.demands.proofs.Alike.{alike-broken, alike-rule, alike-tables, alike-counters, raised-alike}
 
 -- ---- lengths

@@ -1,12 +1,11 @@
 -- Demand 3's premise is the same from both sides: which octets are compared is read off the first frame, and the second gives the same. Assumes nothing.
-use mathlib.Core.Path.{_≡_, refl, sym, ap, ap₂, _∙_}
-use Prim.Native.Nat.{ℕ, _-_, max}
+use mathlib.Core.Path.{_≡_, refl, sym, ap, _∙_}
+use Prim.Native.Nat.{ℕ, max}
 use mathlib.Core.List.{List, [], _∷_}
-use lib.ListN.{length, take}
+use lib.ListN.{length}
 use Rattle.meaning.specs.Frame.{View, view, cutsOf}
 use Rattle.meaning.specs.Fcs.{inner}
 use Rattle.meaning.specs.Receive.{received}
-use Rattle.meaning.specs.declared.Cuts.{Cuts}
 use Rattle.meaning.specs.declared.Received.{Received}
 use Rattle.demands.specs.Secrecy.{AlikeSites, span, outside, AlikeFrames, Paired, Agreed}
 use Rattle.demands.proofs.Alike.{alike-back}

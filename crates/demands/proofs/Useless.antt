@@ -2,14 +2,13 @@
 -- and counter are its own, by all ways to an acceptance. Assumes nothing.
 use mathlib.Core.Path.{_≡_, refl, sym, ap, _∙_}
 use mathlib.Core.Logic.{_≢_}
-use Prim.Native.Nat.{ℕ, zero, suc}
+use Prim.Native.Nat.{ℕ, suc}
 use native.Mathlib.Omega.{arith}
 use mathlib.Core.Bool.{Bool, true, false}
 use mathlib.Core.List.{List, [], _∷_}
 use lib.ListN.{length, getD}
 use Rattle.meaning.specs.Octets.{pick}
-use Rattle.meaning.specs.Status.{number}
-use Rattle.meaning.specs.Frame.{levelOf, counterOf, View, view, privateLen}
+use Rattle.meaning.specs.Frame.{counterOf, View, view, privateLen}
 use Rattle.meaning.specs.Fcs.{inner}
 use Rattle.meaning.specs.Ccm.{Opened}
 use Rattle.meaning.specs.Site.{siteRule, Store, storeOf}
@@ -33,7 +32,7 @@ use Rattle.meaning.specs.Receive.{
   receivedValid,
   received,
 }
-use Rattle.meaning.specs.declared.Refusal.the-variants.{Site, Filtered}
+use Rattle.meaning.specs.declared.Refusal.the-variants.{Site}
 use Rattle.meaning.specs.declared.Refusal.{Refusal}
 use Rattle.meaning.specs.declared.Received.{Received}
 use Rattle.meaning.specs.declared.Judged.{Judged}
@@ -41,7 +40,7 @@ use Rattle.meaning.specs.declared.Judged.the-variants.{Refused, Plain, Secure}
 use Rattle.demands.specs.Useless.{Receiver, Promised, RefusesAll, OneSuccess, WritesNothing, Repeats, TrueLength, TrueCounter}
 use Rattle.demands.proofs.Refusals.{listed}
 use Rattle.demands.proofs.Computing.{computed}
-use Rattle.demands.proofs.Pairs.{siteA, empty, outA, plain, strange, took, plain-A, strange-A}
+use Rattle.demands.proofs.Pairs.{siteA, empty, plain, strange}
 
 -- ---- by a frame
 abbrev first : List ℕ

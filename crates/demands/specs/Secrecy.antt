@@ -1,15 +1,15 @@
 -- Demand 3, on the octets that two callers lend: what a receiver shows depends on no key octet and no private octet. Assumes nothing: these are definitions.
 -- keysAt, keysLen   where the key octets of a site stand
 -- AlikeSites        two sites that are equal outside them
--- outside           how many of a frame's first octets stand outside private payload, tag and FCS
+-- span, outside     how many of a frame's first octets stand outside private payload, tag and FCS
 -- tagSeen           the tag's verdict, where a frame comes so far
 -- AlikeFrames       two frames that pair up
 -- Paired            two lists of frames that pair up, each pair where the receivers then stand
 -- Agreed            one pair of outcomes that tell nothing apart
 -- Agree             each pair of outcomes of the two lists
-use Prim.Native.Nat.{ℕ, zero, suc, _+_, _*_, _-_, max}
+use Prim.Native.Nat.{ℕ, _+_, _*_, _-_, max}
 use mathlib.Core.Path.{_≡_}
-use mathlib.Core.Bool.{Bool, true, false}
+use mathlib.Core.Bool.{Bool}
 use mathlib.Core.List.{List, [], _∷_}
 use mathlib.Core.Option.{Option, none, some}
 use lib.ListN.{length, getD, take, drop}
@@ -19,7 +19,6 @@ use Rattle.meaning.specs.Frame.{counterOf, View, view, cutsOf, openEnd}
 use Rattle.meaning.specs.Fcs.{inner, fcsRight}
 use Rattle.meaning.specs.Site.{countOf, placeOf, siteRule, Store, storeOf, keyAt}
 use Rattle.meaning.specs.Steps.{noDevice}
-use Rattle.meaning.specs.Ccm.{Opened}
 use Rattle.meaning.specs.Receive.{judged, stored, timely, opened, Outcome, received}
 use Rattle.meaning.specs.declared.Judged.{Judged}
 use Rattle.meaning.specs.declared.Judged.the-variants.{Refused, Plain, Secure}
