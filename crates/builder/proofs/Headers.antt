@@ -77,7 +77,7 @@ fields-are q h =
     let b = and-both _ _ (a .1) in
     let c = and-both _ _ (b .1) in
     let d = and-both _ _ (c .1) in
-    let e = and-both _ _ (d .1) in
+    let e = and-both (not (eqb (q .version) 0 && not (eqb (q .level) 0))) _ (d .1) in
     let f = and-both _ _ (e .1) in
     record {
       kind = leb-true _ 3 (a .0);
@@ -93,10 +93,10 @@ unfolding headerBy
 small-by t q f =
     record {
       kind = f .kind;
-      security = bit-le _;
-      pending = bit-le _;
-      request = bit-le _;
-      compression = bit-le _;
+      security = bit-le (not (eqb (q .level) 0));
+      pending = bit-le (q .pending);
+      request = bit-le (q .request);
+      compression = bit-le (compresses (fitted (q .destination)) (ownAddress t (q .srcmode)));
       version = f .version;
       to = rw (fitted-mode (q .destination)) (f .to);
       from = rw (own-mode t (q .srcmode)) (f .from);

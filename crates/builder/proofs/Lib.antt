@@ -3,3 +3,5 @@ pub mod Headers
 pub mod Sizes
 pub mod Puts
 pub mod Decisions
+pub mod Written
+pub mod Ends

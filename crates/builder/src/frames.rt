@@ -1,6 +1,5 @@
 // Writes whole frames from the buffer's first octet on; all octets after the frame stay.
 use meaning::{Header, Request};
-use crate::ccm;
 use crate::put::{put_all, put_fcs, put_open};
 
 ghost use mathlib.Core.Path.{_≡_};

@@ -6,8 +6,6 @@ mod header;
 mod lengths;
 mod put;
 mod rules;
-mod site;
-mod ccm;
 
 use meaning::{Built, Request};
 use decision::{Decision, decide};

@@ -1,31 +1,24 @@
+-- `builder::decide_at` meets its contract: by the site's tables. Assumes nothing.
+use Rattle.builder.proofs.Ends.{decided-by}
+use native.Mathlib.Omega.{arith}
+use borrow.Author.Needs.{needs}
 use Rattle.builder.proofs.decide_at.Statement.{statement}
 use Rattle.builder.proofs.decide_at.Tie as tie
-use Rattle.builder.proofs.decide_at.Reads as reads
-use Rattle.builder.proofs.decide_at.Lts as lts
-use Rattle.builder.proofs.decision.decide.Reads as decide-reads
-use Rattle.builder.proofs.site.own_counter.Reads as own-counter-reads
-use Rattle.builder.proofs.site.settings.Reads as settings-reads
-use Rattle.builder.proofs.site.table.Reads as table-reads
 
--- src/lib.rt:33:9
 settings-requires : tie.Need-settings-requires
-settings-requires c κs = ?
+settings-requires c κs = c .before .before .before .pre
 
--- src/lib.rt:34:9
 table-requires : tie.Need-table-requires
-table-requires c κs = ?
+table-requires c κs = (c .before .before .before .before .pre, omega arith)
 
--- src/lib.rt:35:31
 own-counter-requires : tie.Need-own-counter-requires
-own-counter-requires c κs = ?
+own-counter-requires c κs = c .before .before .before .before .before .pre
 
--- src/lib.rt:35:5
 decide-requires : tie.Need-decide-requires
-decide-requires c κs = ?
+decide-requires c κs = search needs
 
--- src/lib.rt:29:1
 returns : tie.Need-returns
-returns c = ?
+returns c = decided-by _ _ _ _ _ _ _ _ _ (c .before .before .before .settings .ensures) (c .before .before .table .ensures) (c .before .own-counter .ensures) (c .decide .ensures)
 
 pub decide-at-spec : {M : Type 1} → statement M
 decide-at-spec =

@@ -1,31 +1,30 @@
+-- `builder::frames::put_plain` meets its contract: the open part, the private payload, the FCS. Assumes nothing.
+use Rattle.builder.proofs.Written.{open-ends, plain-put}
+use native.Mathlib.Omega.{arith}
 use borrow.Author.Needs.{needs}
 use Rattle.builder.proofs.frames.put_plain.Statement.{statement}
 use Rattle.builder.proofs.frames.put_plain.Tie as tie
-use Rattle.builder.proofs.frames.put_plain.Reads as reads
-use Rattle.builder.proofs.frames.put_plain.Lts as lts
-use Rattle.builder.proofs.put.put_all.Reads as put-all-reads
-use Rattle.builder.proofs.put.put_fcs.Reads as put-fcs-reads
-use Rattle.builder.proofs.put.put_open.Reads as put-open-reads
 
--- src/frames.rt:32:9
 put-open-requires : tie.Need-put-open-requires
 put-open-requires c κs = search needs
 
--- src/frames.rt:33:9
 put-all-requires : tie.Need-put-all-requires
-put-all-requires c κs = ?
+put-all-requires c κs = 
+    let s = c .before .before .before .before .before .before .before .before in
+    omega (arith, open-ends _ _ _ _ _ _ _ (s .pre .1 .1) (c .before .before .before .put-open .ensures .next), s .pre .1 .1 .room)
 
--- src/frames.rt:34:5
 put-fcs-requires : tie.Need-put-fcs-requires
-put-fcs-requires c κs = ?
+put-fcs-requires c κs = 
+    let s = c .before .before .before .before .before .before .before .before .before .before .before .before in
+    (s .pre .0, omega (arith, open-ends _ _ _ _ _ _ _ (s .pre .1 .1) (c .before .before .before .before .before .before .before .put-open .ensures .next), c .before .before .before .put-all .ensures .next, s .pre .1 .1 .room))
 
--- src/frames.rt:19:1
 same-length : tie.Need-same-length
 same-length c = search needs
 
--- src/frames.rt:19:1
 returns : tie.Need-returns
-returns c = ?
+returns c = 
+    let s = c .before .before .before .before .before .before .before .before .before .before .before .before .before .before .before in
+    plain-put _ _ _ _ (s .pre .1 .0) (s .pre .1 .1) (c .before .before .before .before .before .before .before .before .before .before .put-open .ensures) (c .before .before .before .before .before .before .put-all .ensures) (c .before .before .put-fcs .ensures)
 
 pub put-plain-spec : {M : Type 1} → statement M
 put-plain-spec =

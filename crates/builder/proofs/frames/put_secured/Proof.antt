@@ -1,36 +1,41 @@
+-- `builder::frames::put_secured` meets its contract: the open part and the private payload, then sealed, then the FCS. Assumes nothing.
+use mathlib.Core.Path.{refl}
+use Rattle.builder.proofs.Written.{open-ready, open-ends, tag-ends, secured-put}
+use native.Mathlib.Omega.{arith}
 use borrow.Author.Needs.{needs}
 use Rattle.builder.proofs.frames.put_secured.Statement.{statement}
 use Rattle.builder.proofs.frames.put_secured.Tie as tie
-use Rattle.builder.proofs.frames.put_secured.Reads as reads
-use Rattle.builder.proofs.frames.put_secured.Lts as lts
-use Rattle.builder.proofs.frames.put_sealed.Reads as put-sealed-reads
-use Rattle.builder.proofs.put.put_all.Reads as put-all-reads
-use Rattle.builder.proofs.put.put_fcs.Reads as put-fcs-reads
-use Rattle.builder.proofs.put.put_open.Reads as put-open-reads
 
--- src/frames.rt:80:9
 put-open-requires : tie.Need-put-open-requires
-put-open-requires c κs = ?
+put-open-requires c κs = open-ready _ _ _ _ _ _ (c .before .before .before .before .before .pre .1 .1 .1)
 
--- src/frames.rt:81:9
 put-all-requires : tie.Need-put-all-requires
-put-all-requires c κs = ?
+put-all-requires c κs = 
+    let s = c .before .before .before .before .before .before .before .before .before in
+    omega (arith, open-ends _ _ _ _ _ _ _ (s .pre .1 .1 .1) (c .before .before .before .put-open .ensures .next), s .pre .1 .1 .1 .room)
 
--- src/frames.rt:82:9
 put-sealed-requires : tie.Need-put-sealed-requires
-put-sealed-requires c κs = ?
+put-sealed-requires c κs = 
+    let s = c .before .before .before .before .before .before .before .before .before .before .before .before .before in
+    let b = open-ends _ _ _ _ _ _ _ (s .pre .1 .1 .1) (c .before .before .before .before .before .before .before .put-open .ensures .next) in
+    let e = c .before .before .before .put-all .ensures .next in
+    (s .pre .1 .0, (s .pre .1 .1 .0, ((omega (arith, e), omega (arith, b, e)), omega (arith, b, e, s .pre .1 .1 .1 .room))))
 
--- src/frames.rt:83:5
 put-fcs-requires : tie.Need-put-fcs-requires
-put-fcs-requires c κs = ?
+put-fcs-requires c κs = 
+    let s = c .before .before .before .before .before .before .before .before .before .before .before .before .before .before .before .before .before in
+    let b = open-ends _ _ _ _ _ _ _ (s .pre .1 .1 .1) (c .before .before .before .before .before .before .before .before .before .before .before .put-open .ensures .next) in
+    let e = c .before .before .before .before .before .before .before .put-all .ensures .next in
+    let t = tag-ends (s .args .key .now) (s .args .nonce) (s .args .q .level) (c .before .before .before .before .before .before .before .before .before .before .before .put-open .result) (c .before .before .before .before .before .before .before .put-all .result) (omega (arith, e)) (omega (arith, b, e, s .pre .1 .1 .1 .room)) (c .before .before .before .put-sealed .ensures) in
+    (s .pre .0, omega (arith, b, e, t, s .pre .1 .1 .1 .room))
 
--- src/frames.rt:61:1
 same-length : tie.Need-same-length
 same-length c = search needs
 
--- src/frames.rt:61:1
 returns : tie.Need-returns
-returns c = ?
+returns c = 
+    secured-put _ _ _ _ _ _ _ _ refl (c .before .before .before .before .before .before .before .before .before .before .before .before .before .before .before .before .before .before .before .before .pre .1 .1 .1) (c .before .before .before .before .before .before .before .before .before .before .before .before .before .before .put-open .ensures) (c .before .before .before .before .before .before .before .before .before .before .put-all .ensures)
+    (c .before .before .before .before .before .before .put-sealed .ensures) (c .before .before .put-fcs .ensures)
 
 pub put-secured-spec : {M : Type 1} → statement M
 put-secured-spec =
