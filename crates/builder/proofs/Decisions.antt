@@ -1,29 +1,26 @@
 -- The decision by its tests; the key lookup by the source compared; and what a decision says of the request. Assumes nothing.
-use mathlib.Core.Path.{_≡_, refl, sym, ap, ap₂, _∙_}
-use mathlib.Core.Bool.{Bool, true, false}
-use mathlib.Core.List.{List, [], _∷_, _++_}
+use mathlib.Core.Path.{_≡_, sym, ap, ap₂, _∙_}
+use mathlib.Core.List.{List}
 use Prim.Native.Nat.{ℕ, _+_, _*_, _/_, _≤_, _<_}
 use native.Mathlib.Omega.{arith}
-use lib.ListN.{length, getD, take, drop}
-use lib.Dec.{eqb}
+use lib.ListN.{length, getD, drop}
 use borrow.Author.Tests.{eq-eqb, ne-eqb}
-use Rattle.meaning.specs.Octets.{pick, part}
+use Rattle.meaning.specs.Octets.{part}
 use Rattle.meaning.specs.Frame.{keySourceLen}
-use Rattle.meaning.specs.Site.{records, defaultKeySource}
+use Rattle.meaning.specs.Site.{defaultKeySource}
 use Rattle.meaning.specs.Steps.{peerOf, keySource, keyRow, keyOf}
 use Rattle.meaning.specs.Build.{fitted}
 use Rattle.meaning.specs.declared.Found.{Found}
 use Rattle.meaning.specs.declared.Found.the-variants.{At, Nothing}
-use Rattle.meaning.specs.declared.Refusal.the-variants.{UnavailableKey, CounterError}
+use Rattle.meaning.specs.declared.Refusal.the-variants.{UnavailableKey}
 use Rattle.meaning.specs.declared.Address.{Address}
 use Rattle.meaning.specs.declared.Request.{Request}
 use Rattle.meaning.proofs.Ways.{key-below}
 use Rattle.meaning.proofs.Lengths.{key-source-bound}
 use Rattle.search.specs.Rows.{keyRowBy}
 use Rattle.search.proofs.Laws.{keyRow-by}
-use Rattle.builder.specs.declared.decision.Decision.{Decision}
-use Rattle.builder.specs.declared.decision.Decision.the-variants.{Refused, Plain, Keyed}
-use Rattle.builder.specs.Decided.{keyed, chosen, decided}
+use Rattle.builder.specs.declared.decision.Decision.the-variants.{Refused, Keyed}
+use Rattle.builder.specs.Decided.{keyed, chosen}
 use Rattle.builder.proofs.Sizes.{length-take-most}
 
 -- ---- the key source

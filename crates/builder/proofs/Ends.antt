@@ -1,79 +1,25 @@
 -- What a decision says of the request, and building by the decision: the frame it lays, the counter it raises. Assumes nothing.
 use mathlib.Core.Path.{_≡_, refl, sym, ap, ap₂, _∙_}
-use mathlib.Core.Bool.{Bool, true, false, _&&_, _||_}
-use mathlib.Core.List.{List, [], _∷_, _++_, append-assoc}
-use Prim.Native.Nat.{ℕ, suc, _+_, _*_, _/_, _^_, _≤_, _<_}
+use mathlib.Core.Bool.{Bool, true, false, _||_}
+use mathlib.Core.List.{List, _++_, append-assoc}
+use Prim.Native.Nat.{ℕ, _+_, _*_, _≤_, _<_}
 use native.Mathlib.Omega.{arith}
-use lib.ListN.{length, getD, take, drop}
-use lib.Seq.{sets}
+use lib.ListN.{length, getD, drop}
 use lib.Dec.{eqb, ltb, leb}
 use borrow.Author.Tests.{leb-true, ltb-false, eqb-true, eqb-false}
-use Rattle.meaning.specs.Octets.{pick, leAt, beside, part}
+use Rattle.meaning.specs.Octets.{pick, leAt, beside}
 use Rattle.meaning.specs.Status.{number}
-use Rattle.meaning.specs.Frame.{shapeRight}
-use Rattle.meaning.specs.Site.{
-  records,
-  widthOf,
-  countOf,
-  placeOf,
-  body,
-  extendedAddress,
-  securityOn,
-  ownCounter,
-  siteRule,
-  settingsOf,
-  tablesOf,
-  storeOf,
-  keyAt,
-  Tables,
-  Store,
-}
+use Rattle.meaning.specs.Site.{records, widthOf, countOf, placeOf, body, extendedAddress, securityOn, ownCounter, siteRule, settingsOf, tablesOf, storeOf, keyAt}
 use Rattle.meaning.specs.Steps.{peerOf, keyRow, keyOf}
 use Rattle.meaning.specs.Cipher.{cipher}
-use Rattle.meaning.specs.Ccm.{nonceOf, Sealed, sealed}
-use Rattle.meaning.specs.Build.{
-  fitted,
-  headerBy,
-  headOctets,
-  auxOctets,
-  fieldsRight,
-  sourceRight,
-  payloadsRight,
-  requestRight,
-  Made,
-  refuse,
-  frame,
-  withFcs,
-  sealing,
-  securedBody,
-  plainBody,
-  frameLen,
-  secured,
-  onLookup,
-  onCounter,
-  made,
-  Construction,
-  construction,
-  ownRaised,
-  laid,
-  builtValid,
-  built,
-}
+use Rattle.meaning.specs.Ccm.{nonceOf, sealed}
+use Rattle.meaning.specs.Build.{fitted, headerBy, headOctets, auxOctets, requestRight, Made, refuse, frame, withFcs, sealing, securedBody, plainBody, frameLen, secured, onLookup, onCounter, made, Construction, construction, ownRaised, laid, builtValid, built}
 use Rattle.meaning.specs.declared.Found.{Found}
 use Rattle.meaning.specs.declared.Found.the-variants.{At, Nothing}
 use Rattle.meaning.specs.declared.Refusal.{Refusal}
-use Rattle.meaning.specs.declared.Refusal.the-variants.{
-  Site,
-  Room,
-  UnsupportedSecurity,
-  UnavailableKey,
-  CounterError,
-  FrameTooLong,
-  InvalidParameter,
-}
+use Rattle.meaning.specs.declared.Refusal.the-variants.{Room, UnsupportedSecurity, CounterError, FrameTooLong, InvalidParameter}
 use Rattle.meaning.specs.declared.Header.{Header}
 use Rattle.meaning.specs.declared.Request.{Request}
-use Rattle.meaning.specs.declared.Built.{Built}
 use Rattle.meaning.proofs.Lists.{and-both}
 use Rattle.meaning.proofs.Scan.{pick-all}
 use Rattle.meaning.proofs.Stores.{sets-beside}
@@ -211,7 +157,7 @@ module _ (s : List ℕ) (q : Request) (o p : List ℕ) (k : ℕ) where
   unfolding keyedBody
   keyed-is = body-is (keyAt (body s 3) k) (extendedAddress (settingsOf s)) (storeOf s .own) (q .level) (headOctets (headerBy (settingsOf s) q)) (auxOctets q (storeOf s .own)) o p
 
-  keyed-long : (n : ℕ) → Ready (headerBy (settingsOf s) q) q o p n → length (withFcs (keyedBody s q o p k)) ≤ n
+  pub keyed-long : (n : ℕ) → Ready (headerBy (settingsOf s) q) q o p n → length (withFcs (keyedBody s q o p k)) ≤ n
   keyed-long n w =
       let x : ℕ = extendedAddress (settingsOf s) in
       rw keyed-is at (secured-long (keyAt (body s 3) k) (nonceOf x (storeOf s .own) (q .level)) (headerBy (settingsOf s) q) q (storeOf s .own) o p n w)
@@ -226,7 +172,7 @@ module _ (s : List ℕ) (q : Request) (o p : List ℕ) (k : ℕ) where
       z = rw (hn, extended-is s u e hu he, hh, hu, hc, hk) keyed-is
 
 -- ---- the frame that is laid
-unfoldable result : List ℕ → Request → List ℕ → List ℕ → Decision → Made
+unfoldable pub result : List ℕ → Request → List ℕ → List ℕ → Decision → Made
 result s q o p (Refused r) = refuse r
 result s q o p Plain = frame (withFcs (plainBody (headOctets (headerBy (settingsOf s) q)) o p)) false
 result s q o p (Keyed k) = frame (withFcs (keyedBody s q o p k)) true
@@ -249,7 +195,7 @@ module _ (s : List ℕ) (q : Request) (o p : List ℕ) where
   found-is Nothing = refl
   found-is (At i) = refl
 
-  made-is : (room : ℕ) → made (storeOf s) q o p room ≡ result s q o p (decidedAt s q o p room)
+  pub made-is : (room : ℕ) → made (storeOf s) q o p room ≡ result s q o p (decidedAt s q o p room)
   unfolding made onCounter decidedAt decided chosen storeOf tablesOf result
   made-is room =
       let t : List ℕ = settingsOf s in

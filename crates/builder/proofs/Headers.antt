@@ -1,16 +1,14 @@
 -- The header that a request asks for, by its parts; and its fields are in range where the request's are. Assumes nothing.
-use mathlib.Core.Path.{_≡_, refl, sym, ap, _∙_}
+use mathlib.Core.Path.{_≡_, refl, sym}
 use mathlib.Core.Bool.{Bool, true, false, _&&_, _||_, not}
 use mathlib.Core.List.{List}
-use Prim.Native.Nat.{ℕ, _+_, _≤_}
+use Prim.Native.Nat.{ℕ, _≤_}
 use native.Mathlib.Omega.{arith}
-use lib.Dec.{eqb, leb}
+use lib.Dec.{eqb}
 use borrow.Author.Tests.{leb-true}
-use Rattle.meaning.specs.Octets.{pick}
 use Rattle.meaning.specs.Frame.{absent}
 use Rattle.meaning.specs.Build.{bit, fitted, ownAddress, compresses, headerBy, modeRight, fieldsRight}
 use Rattle.meaning.specs.declared.Address.{Address}
-use Rattle.meaning.specs.declared.Header.{Header}
 use Rattle.meaning.specs.declared.Request.{Request}
 use Rattle.meaning.proofs.Lists.{and-both}
 use Rattle.meaning.proofs.Same.{eqb-true}

@@ -5,3 +5,4 @@ pub mod Puts
 pub mod Decisions
 pub mod Written
 pub mod Ends
+pub mod Laws

@@ -1,27 +1,15 @@
 -- Octets put one after the other are put together; the parts of a frame by what their functions store. Assumes nothing.
 use mathlib.Core.Path.{_≡_, refl, sym, ap, ap₂, _∙_}
-use mathlib.Core.Bool.{Bool, true, false}
 use mathlib.Core.List.{List, [], _∷_, _++_}
-use Prim.Native.Nat.{ℕ, suc, _+_, _*_, _%_, _≤_, _<_}
+use Prim.Native.Nat.{ℕ, _+_, _*_, _%_}
 use native.Mathlib.Nat.{add-zero}
-use native.Mathlib.Numerals.{add-one}
 use native.Mathlib.Omega.{arith}
-use lib.ListN.{length, take, drop, set, length-append}
+use lib.ListN.{length, take, length-append}
 use lib.Seq.{sets}
-use lib.Dec.{eqb}
 use borrow.Author.Tests.{eq-eqb, ne-eqb}
-use Rattle.meaning.specs.Octets.{pick, octs}
+use Rattle.meaning.specs.Octets.{octs}
 use Rattle.meaning.specs.Frame.{addressLen, keySourceLen}
-use Rattle.meaning.specs.Build.{
-  firstOctet,
-  secondOctet,
-  addressOctets,
-  placedOctets,
-  sourceOctets,
-  headOctets,
-  keyIdOctets,
-  auxOctets,
-}
+use Rattle.meaning.specs.Build.{firstOctet, secondOctet, addressOctets, placedOctets, sourceOctets, headOctets, keyIdOctets, auxOctets}
 use Rattle.meaning.specs.Fcs.{sum, fcs}
 use Rattle.meaning.specs.declared.Address.{Address}
 use Rattle.meaning.specs.declared.Header.{Header}

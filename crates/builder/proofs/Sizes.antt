@@ -1,32 +1,23 @@
 -- How many octets each part of a frame takes, and at most. Assumes nothing.
-use mathlib.Core.Path.{_≡_, refl, sym, ap, ap₂, _∙_}
+use mathlib.Core.Path.{_≡_, refl, sym, ap, _∙_}
 use mathlib.Core.Bool.{Bool, true, false}
 use mathlib.Core.List.{List, [], _∷_, _++_}
-use Prim.Native.Nat.{ℕ, suc, _+_, _*_, _≤_, _<_}
+use Prim.Native.Nat.{ℕ, _+_, _*_, _≤_, _<_}
 use native.Mathlib.Nat.{min-le-left}
 use native.Mathlib.Omega.{arith}
-use lib.ListN.{length, take, drop, length-append, length-take}
+use lib.ListN.{length, take, length-append, length-take}
 use lib.Seq.{length-take-le}
 use lib.Dec.{eqb, leb}
-use borrow.Author.Tests.{eq-eqb, ne-eqb, lt-leb, le-leb}
+use borrow.Author.Tests.{eq-eqb, ne-eqb, lt-leb}
 use Rattle.meaning.specs.Octets.{pick, octs}
 use Rattle.meaning.specs.Frame.{addressLen, keySourceLen, keyIdLen, tagLen}
-use Rattle.meaning.specs.Build.{
-  addressOctets,
-  placedOctets,
-  sourceOctets,
-  headOctets,
-  keyIdOctets,
-  auxOctets,
-  headerBy,
-  frameLen,
-}
+use Rattle.meaning.specs.Build.{addressOctets, placedOctets, sourceOctets, headOctets, keyIdOctets, auxOctets, headerBy, frameLen}
 use Rattle.meaning.specs.declared.Address.{Address}
 use Rattle.meaning.specs.declared.Header.{Header}
 use Rattle.meaning.specs.declared.Request.{Request}
 use Rattle.meaning.proofs.Numbers.{length-octs}
 use Rattle.meaning.proofs.Scan.{pick-all}
-use Rattle.meaning.proofs.Lengths.{address-bound, key-source-bound, key-id-bound}
+use Rattle.meaning.proofs.Lengths.{address-bound, key-source-bound}
 
 -- ---- addresses
 pub length-address : (a : Address) → length (addressOctets a) ≡ addressLen (a .mode)

@@ -1,14 +1,11 @@
 -- Whole frames: what was put in front is read back, sealed in place and summed. Assumes nothing.
 use mathlib.Core.Path.{_≡_, refl, sym, ap, ap₂, _∙_}
-use mathlib.Core.Bool.{Bool, true, false}
-use mathlib.Core.List.{List, [], _∷_, _++_, append-assoc}
-use Prim.Native.Nat.{ℕ, suc, _+_, _-_, _*_, _≤_, _<_}
+use mathlib.Core.List.{List, [], _++_, append-assoc}
+use Prim.Native.Nat.{ℕ, _+_, _-_, _≤_}
 use native.Mathlib.Omega.{arith}
 use lib.ListN.{length, take, drop, length-append, length-drop}
 use lib.Seq.{sets, sets-eq, length-sets, take-take, take-at, drop-at, length-take-le}
-use lib.Dec.{eqb}
 use borrow.Author.Tests.{eq-eqb}
-use Rattle.meaning.specs.Octets.{pick, beside}
 use Rattle.meaning.specs.Frame.{tagLen}
 use Rattle.meaning.specs.Fcs.{fcs}
 use Rattle.meaning.specs.Cipher.{cipher}

@@ -5,24 +5,16 @@
 -- decidedAt the same, of the site's own tables
 -- keyedBody the frame that a key makes, without its FCS
 use Prim.Native.Nat.{ℕ}
-use mathlib.Core.Bool.{Bool, _||_}
+use mathlib.Core.Bool.{_||_}
 use mathlib.Core.List.{List}
 use lib.Dec.{leb, ltb, eqb}
 use Rattle.meaning.specs.Octets.{pick}
-use Rattle.meaning.specs.Site.{securityOn, extendedAddress, settingsOf, body, storeOf, keyAt, Store}
+use Rattle.meaning.specs.Site.{securityOn, extendedAddress, settingsOf, body, storeOf, keyAt}
 use Rattle.meaning.specs.Steps.{peerOf, keyRow, keyOf}
 use Rattle.meaning.specs.Build.{fitted, headerBy, headOctets, auxOctets, requestRight, securedBody, frameLen}
 use Rattle.meaning.specs.declared.Found.{Found}
 use Rattle.meaning.specs.declared.Found.the-variants.{At, Nothing}
-use Rattle.meaning.specs.declared.Refusal.{Refusal}
-use Rattle.meaning.specs.declared.Refusal.the-variants.{
-  Room,
-  UnsupportedSecurity,
-  UnavailableKey,
-  CounterError,
-  FrameTooLong,
-  InvalidParameter,
-}
+use Rattle.meaning.specs.declared.Refusal.the-variants.{Room, UnsupportedSecurity, UnavailableKey, CounterError, FrameTooLong, InvalidParameter}
 use Rattle.meaning.specs.declared.Request.{Request}
 use Rattle.builder.specs.declared.decision.Decision.{Decision}
 use Rattle.builder.specs.declared.decision.Decision.the-variants.{Refused, Plain, Keyed}

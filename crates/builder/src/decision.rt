@@ -1,9 +1,10 @@
 // What becomes of a request: a refusal, a frame without security, or a frame under a key.
-use meaning::{Found, Refusal, Request};
 use crate::header::fitted;
 use crate::lengths::fits;
 use crate::rules::request_right;
-
+use meaning::Found;
+use meaning::Refusal;
+use meaning::Request;
 ghost use mathlib.Core.Path.{_≡_};
 ghost use mathlib.Core.Bool.{_||_};
 ghost use lib.ListN.{length};

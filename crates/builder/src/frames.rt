@@ -1,7 +1,9 @@
 // Writes whole frames from the buffer's first octet on; all octets after the frame stay.
-use meaning::{Header, Request};
-use crate::put::{put_all, put_fcs, put_open};
-
+use crate::put::put_all;
+use crate::put::put_fcs;
+use crate::put::put_open;
+use meaning::Header;
+use meaning::Request;
 ghost use mathlib.Core.Path.{_≡_};
 ghost use mathlib.Core.List.{_++_};
 ghost use Prim.Native.Nat.{_+_, _≤_, _<_};

@@ -1,6 +1,7 @@
 // The header that a request asks for, with the source that the settings name.
-use meaning::{Address, Header, Request};
-
+use meaning::Address;
+use meaning::Header;
+use meaning::Request;
 ghost use mathlib.Core.Path.{_≡_};
 ghost use Rattle.meaning.specs.Build.{bit, fitted, ownAddress, compresses, headerBy};
 

@@ -1,7 +1,8 @@
 // How long a frame will be.
-use meaning::{Address, Header, Request};
 use crate::header::header_by;
-
+use meaning::Address;
+use meaning::Header;
+use meaning::Request;
 ghost use mathlib.Core.Path.{_≡_};
 ghost use lib.ListN.{length};
 ghost use lib.Dec.{leb};

@@ -7,11 +7,13 @@ mod lengths;
 mod put;
 mod rules;
 
-use meaning::{Built, Request};
-use decision::{Decision, decide};
-use frames::{put_plain, put_secured};
+use decision::Decision;
+use decision::decide;
+use frames::put_plain;
+use frames::put_secured;
 use header::header_by;
-
+use meaning::Built;
+use meaning::Request;
 ghost use mathlib.Core.Path.{_≡_};
 ghost use mathlib.Core.Bool.{true};
 ghost use lib.ListN.{length};
@@ -30,7 +32,15 @@ fn decide_at(site: &[u8], q: Request, opens: &[u8], private: &[u8], room: usize)
 {
     let settings = site::settings(site);
     let lookups = site::table(site, 4);
-    decide(settings, lookups, site::own_counter(site), q, opens, private, room)
+    decide(
+        settings,
+        lookups,
+        site::own_counter(site),
+        q,
+        opens,
+        private,
+        room,
+    )
 }
 
 // Writes the frame without security that was decided on.
@@ -102,18 +112,12 @@ pub fn build_valid(
         },
         Decision::Plain => {
             let n = plain_at(table, site, q, opens, private, out);
-            Built {
-                status: 0,
-                len: n,
-            }
+            Built { status: 0, len: n }
         }
         Decision::Keyed(k) => {
             let n = keyed_at(table, sbox, site, k, q, opens, private, out);
             site::raise_own(site);
-            Built {
-                status: 0,
-                len: n,
-            }
+            Built { status: 0, len: n }
         }
     }
 }
@@ -124,10 +128,7 @@ pub fn build(site: &mut [u8], q: Request, opens: &[u8], private: &[u8], out: &mu
         ⌜ construction r (now (site .exit)) (now (out .exit)) ≡ built (now (site .entry)) q (now (opens .entry)) (now (private .entry)) (now (out .entry)) ⌝ }
 {
     if !site::site_holds(site) {
-        return Built {
-            status: 1,
-            len: 0,
-        };
+        return Built { status: 1, len: 0 };
     }
     let table = fcs::table();
     let sbox = aes::sbox_table();

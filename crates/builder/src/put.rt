@@ -1,6 +1,7 @@
 // Writes a frame's parts, one after the other. Each function stores its octets from a place on, leaves all others, and gives the next place.
-use meaning::{Address, Header, Request};
-
+use meaning::Address;
+use meaning::Header;
+use meaning::Request;
 ghost use mathlib.Core.Path.{_≡_};
 ghost use mathlib.Core.List.{[], _∷_, _++_};
 ghost use Prim.Native.Nat.{_+_, _≤_};

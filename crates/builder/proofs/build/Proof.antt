@@ -6,43 +6,31 @@ use Rattle.builder.proofs.Ends.{broken, valid}
 use Rattle.builder.proofs.build.Statement.{statement}
 use Rattle.builder.proofs.build.Tie as tie
 
-site-holds-requires : tie.Need-site-holds-requires
-site-holds-requires c κs = search needs
-
-same-length : tie.Need-same-length
-same-length c = search needs
-
 returns : tie.Need-returns
 returns c = broken _ _ _ _ _ _ (c .before .site-holds .ensures) (not-true _ (c .if1 .taken))
 
-table-requires : tie.Need-table-requires
-table-requires c κs = search needs
-
-sbox-table-requires : tie.Need-sbox-table-requires
-sbox-table-requires c κs = search needs
-
 build-valid-requires : tie.Need-build-valid-requires
-build-valid-requires c κs = (c .before .before .before .before .before .table .ensures, (c .before .before .before .before .sbox-table .ensures, sym (c .before .before .before .before .before .before .before .site-holds .ensures) ∙ not-false _ (c .before .before .before .before .before .before .if1 .left)))
-
-same-length-2 : tie.Need-same-length-2
-same-length-2 c = search needs
-
-same-length-3 : tie.Need-same-length-3
-same-length-3 c = search needs
+build-valid-requires c κs =
+    let b = c .before .before .before .before in
+    let e = b .before .before in
+    (b .before .table .ensures, (b .sbox-table .ensures, sym (e .before .site-holds .ensures) ∙ not-false _ (e .if1 .left)))
 
 returns-2 : tie.Need-returns-2
-returns-2 c = valid _ _ _ _ _ _ _ (c .before .before .before .before .before .before .before .before .before .before .before .before .site-holds .ensures) (not-false _ (c .before .before .before .before .before .before .before .before .before .before .before .if1 .left)) (c .before .before .before .before .build-valid .ensures)
+returns-2 c =
+    let b = c .before .before .before .before in
+    let e = b .before .before .before .before .before .before .before in
+    valid _ _ _ _ _ _ _ (e .before .site-holds .ensures) (not-false _ (e .if1 .left)) (b .build-valid .ensures)
 
 pub build-spec : {M : Type 1} → statement M
 build-spec =
     tie.close
     (tie.spec
-    site-holds-requires
-    same-length
+    (λ c κs. search needs)
+    (λ c. search needs)
     returns
-    table-requires
-    sbox-table-requires
+    (λ c κs. search needs)
+    (λ c κs. search needs)
     build-valid-requires
-    same-length-2
-    same-length-3
+    (λ c. search needs)
+    (λ c. search needs)
     returns-2)

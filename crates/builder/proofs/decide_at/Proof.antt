@@ -14,13 +14,10 @@ table-requires c κs = (c .before .before .before .before .pre, omega arith)
 own-counter-requires : tie.Need-own-counter-requires
 own-counter-requires c κs = c .before .before .before .before .before .pre
 
-decide-requires : tie.Need-decide-requires
-decide-requires c κs = search needs
-
 returns : tie.Need-returns
 returns c = decided-by _ _ _ _ _ _ _ _ _ (c .before .before .before .settings .ensures) (c .before .before .table .ensures) (c .before .own-counter .ensures) (c .decide .ensures)
 
 pub decide-at-spec : {M : Type 1} → statement M
 decide-at-spec =
     tie.close
-    (tie.spec settings-requires table-requires own-counter-requires decide-requires returns)
+    (tie.spec settings-requires table-requires own-counter-requires (λ c κs. search needs) returns)

@@ -5,54 +5,38 @@ use borrow.Author.Needs.{needs}
 use Rattle.builder.proofs.keyed_at.Statement.{statement}
 use Rattle.builder.proofs.keyed_at.Tie as tie
 
-settings-requires : tie.Need-settings-requires
-settings-requires c κs = search needs
-
-own-counter-requires : tie.Need-own-counter-requires
-own-counter-requires c κs = search needs
-
 key-of-requires : tie.Need-key-of-requires
-key-of-requires c κs = 
+key-of-requires c κs =
     let s = c .before .before .before .before .before .before in
     (s .pre .1 .1 .0, key-inside _ _ _ _ _ _ (s .pre .1 .1 .0) (s .pre .1 .1 .1))
 
-number64-requires : tie.Need-number64-requires
-number64-requires c κs = search needs
-
-nonce-requires : tie.Need-nonce-requires
-nonce-requires c κs = search needs
-
-header-by-requires : tie.Need-header-by-requires
-header-by-requires c κs = search needs
-
-slice-aggregate-put-secured : tie.Need-slice-aggregate-put-secured
-slice-aggregate-put-secured c = search needs
-
 put-secured-requires : tie.Need-put-secured-requires
-put-secured-requires c κs = 
+put-secured-requires c κs =
     let s = c .before .before .before .before .before .before .before .before .before .before .before .before in
     let w = keyed-ready _ _ _ _ _ _ (s .pre .1 .1 .1) in
     (s .pre .0, (s .pre .1 .0, (omega arith, ready-by _ _ _ _ _ _ _ (c .before .before .before .before .before .before .before .settings .ensures) (c .before .before .header-by .ensures) w)))
 
-same-length : tie.Need-same-length
-same-length c = search needs
-
 returns : tie.Need-returns
-returns c = 
-    keyed-as _ _ _ _ _ _ _ _ _ _ _ (c .before .before .before .before .before .before .before .before .before .before .settings .ensures) (c .before .before .before .before .before .before .before .before .before .own-counter .ensures) (c .before .before .before .before .before .before .before .before .key-of .ensures)
-    (c .before .before .before .before .before .before .before .number64 .ensures) (c .before .before .before .before .before .before .nonce .ensures) (c .before .before .before .before .before .header-by .ensures) (c .before .before .put-secured .ensures)
+returns c =
+    let h = c .before .before .before .before .before in
+    let n = h .before in
+    let e = n .before in
+    let k = e .before in
+    let o = k .before in
+    keyed-as _ _ _ _ _ _ _ _ _ _ _ (o .before .settings .ensures) (o .own-counter .ensures) (k .key-of .ensures) (e .number64 .ensures)
+    (n .nonce .ensures) (h .header-by .ensures) (c .before .before .put-secured .ensures)
 
 pub keyed-at-spec : {M : Type 1} → statement M
 keyed-at-spec =
     tie.close
     (tie.spec
-    settings-requires
-    own-counter-requires
+    (λ c κs. search needs)
+    (λ c κs. search needs)
     key-of-requires
-    number64-requires
-    nonce-requires
-    header-by-requires
-    slice-aggregate-put-secured
+    (λ c κs. search needs)
+    (λ c κs. search needs)
+    (λ c κs. search needs)
+    (λ c. search needs)
     put-secured-requires
-    same-length
+    (λ c. search needs)
     returns)

@@ -4,20 +4,11 @@ use borrow.Author.Needs.{needs}
 use Rattle.builder.proofs.plain_at.Statement.{statement}
 use Rattle.builder.proofs.plain_at.Tie as tie
 
-settings-requires : tie.Need-settings-requires
-settings-requires c κs = search needs
-
-header-by-requires : tie.Need-header-by-requires
-header-by-requires c κs = search needs
-
 put-plain-requires : tie.Need-put-plain-requires
-put-plain-requires c κs = 
+put-plain-requires c κs =
     let s = c .before .before .before .before .before .before .before in
     let w = plain-ready _ _ _ _ _ (s .pre .1 .1) in
     (s .pre .0, (w .1, ready-by _ _ _ _ _ _ _ (c .before .before .settings .ensures) (c .before .header-by .ensures) (w .0)))
-
-same-length : tie.Need-same-length
-same-length c = search needs
 
 returns : tie.Need-returns
 returns c = plain-as _ _ _ _ _ _ (c .before .before .before .before .before .settings .ensures) (c .before .before .before .before .header-by .ensures) (c .before .before .put-plain .ensures)
@@ -25,4 +16,4 @@ returns c = plain-as _ _ _ _ _ _ (c .before .before .before .before .before .set
 pub plain-at-spec : {M : Type 1} → statement M
 plain-at-spec =
     tie.close
-    (tie.spec settings-requires header-by-requires put-plain-requires same-length returns)
+    (tie.spec (λ c κs. search needs) (λ c κs. search needs) put-plain-requires (λ c. search needs) returns)

@@ -11,15 +11,6 @@ returns : tie.Need-returns
 unfolding chosen
 returns c = search tests
 
-key-row-requires : tie.Need-key-row-requires
-key-row-requires c κs = search needs
-
-enum-known-i : tie.Need-enum-known-i
-enum-known-i c = search needs
-
-enum-told : tie.Need-enum-told
-enum-told c = search needs
-
 returns-2 : tie.Need-returns-2
 returns-2 c = search chosen-none
 
@@ -29,9 +20,6 @@ mul-wide c = omega (arith, row-inside _ _ _ _ _ _ _ _ (c .before .before .before
 shared-slice-read-wide : tie.Need-shared-slice-read-wide
 shared-slice-read-wide c = omega (arith, row-inside _ _ _ _ _ _ _ _ (c .before .before .before .before .key-row .ensures) (c .before .before .i .given .1))
 
-wide-requires : tie.Need-wide-requires
-wide-requires c κs = search needs
-
 returns-3 : tie.Need-returns-3
 returns-3 c = search chosen-key depth 9
 
@@ -40,11 +28,11 @@ choose-spec =
     tie.close
     (tie.spec
     returns
-    key-row-requires
-    enum-known-i
-    enum-told
+    (λ c κs. search needs)
+    (λ c. search needs)
+    (λ c. search needs)
     returns-2
     mul-wide
     shared-slice-read-wide
-    wide-requires
+    (λ c κs. search needs)
     returns-3)

@@ -11,34 +11,25 @@ returns : tie.Need-returns
 unfolding decided
 returns c = search tests
 
-request-right-requires : tie.Need-request-right-requires
-request-right-requires c κs = search needs
-
 returns-2 : tie.Need-returns-2
 unfolding decided
-returns-2 c = 
+returns-2 c =
     let r = c .before in
     off-lt _ _ _ _ _ (r .before .if1 .left)
     (off-by _ _ _ _ _ (r .request-right .ensures) (not-true _ (c .if2 .taken)) refl)
 
-permitted-requires : tie.Need-permitted-requires
-permitted-requires c κs = search needs
-
 returns-3 : tie.Need-returns-3
 unfolding decided
-returns-3 c = 
+returns-3 c =
     let p = c .before in
     let r = p .before .before in
     off-lt _ _ _ _ _ (r .before .if1 .left)
     (on-by _ _ _ _ _ (r .request-right .ensures) (not-false _ (p .before .if2 .left))
     (off-by _ _ _ _ _ (p .permitted .ensures) (not-true _ (c .if3 .taken)) refl))
 
-fits-requires : tie.Need-fits-requires
-fits-requires c κs = search needs
-
 returns-4 : tie.Need-returns-4
 unfolding decided
-returns-4 c = 
+returns-4 c =
     let f = c .before in
     let p = f .before .before in
     let r = p .before .before in
@@ -49,7 +40,7 @@ returns-4 c =
 
 returns-5 : tie.Need-returns-5
 unfolding decided
-returns-5 c = 
+returns-5 c =
     let e = c .before .before in
     let f = e .before in
     let p = f .before .before in
@@ -60,12 +51,9 @@ returns-5 c =
     (on-by _ _ _ _ _ (f .fits2 .ensures) (not-false _ (e .if4 .left))
     (on-eq _ _ _ _ _ (c .if5 .taken) refl))))
 
-choose-requires : tie.Need-choose-requires
-choose-requires c κs = search needs
-
 returns-6 : tie.Need-returns-6
 unfolding decided
-returns-6 c = 
+returns-6 c =
     let e = c .before .before .before in
     let f = e .before in
     let p = f .before .before in
@@ -81,12 +69,12 @@ decide-spec =
     tie.close
     (tie.spec
     returns
-    request-right-requires
+    (λ c κs. search needs)
     returns-2
-    permitted-requires
+    (λ c κs. search needs)
     returns-3
-    fits-requires
+    (λ c κs. search needs)
     returns-4
     returns-5
-    choose-requires
+    (λ c κs. search needs)
     returns-6)

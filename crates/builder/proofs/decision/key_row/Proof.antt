@@ -6,15 +6,6 @@ use borrow.Author.Needs.{needs}
 use Rattle.builder.proofs.decision.key_row.Statement.{statement}
 use Rattle.builder.proofs.decision.key_row.Tie as tie
 
-fitted-requires : tie.Need-fitted-requires
-fitted-requires c κs = search needs
-
-peer-of-requires : tie.Need-peer-of-requires
-peer-of-requires c κs = search needs
-
-part-of-requires : tie.Need-part-of-requires
-part-of-requires c κs = search needs
-
 key-row-requires : tie.Need-key-row-requires
 key-row-requires c κs = search part-few
 
@@ -27,12 +18,6 @@ eight x = search needs
 slice-aggregate-part-of : tie.Need-slice-aggregate-part-of
 slice-aggregate-part-of c = sym (eight (c .before .before))
 
-key-source-len-requires : tie.Need-key-source-len-requires
-key-source-len-requires c κs = search needs
-
-part-of-requires-2 : tie.Need-part-of-requires-2
-part-of-requires-2 c κs = search needs
-
 key-row-requires-2 : tie.Need-key-row-requires-2
 key-row-requires-2 c κs = search part-source
 
@@ -43,13 +28,13 @@ pub key-row-spec : {M : Type 1} → statement M
 key-row-spec =
     tie.close
     (tie.spec
-    fitted-requires
-    peer-of-requires
-    part-of-requires
+    (λ c κs. search needs)
+    (λ c κs. search needs)
+    (λ c κs. search needs)
     key-row-requires
     returns
     slice-aggregate-part-of
-    key-source-len-requires
-    part-of-requires-2
+    (λ c κs. search needs)
+    (λ c κs. search needs)
     key-row-requires-2
     returns-2)

@@ -11,12 +11,9 @@ returns : tie.Need-returns
 unfolding securityOn
 returns c = search (joined, bools) depth 9
 
-octet-requires : tie.Need-octet-requires
-octet-requires c κs = search needs
-
 returns-2 : tie.Need-returns-2
 unfolding securityOn
 returns-2 c = search (joined, bools, odd-last) depth 9
 
 pub permitted-spec : {M : Type 1} → statement M
-permitted-spec = tie.close (tie.spec returns octet-requires returns-2)
+permitted-spec = tie.close (tie.spec returns (λ c κs. search needs) returns-2)

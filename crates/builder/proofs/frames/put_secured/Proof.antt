@@ -10,32 +10,41 @@ put-open-requires : tie.Need-put-open-requires
 put-open-requires c κs = open-ready _ _ _ _ _ _ (c .before .before .before .before .before .pre .1 .1 .1)
 
 put-all-requires : tie.Need-put-all-requires
-put-all-requires c κs = 
-    let s = c .before .before .before .before .before .before .before .before .before in
-    omega (arith, open-ends _ _ _ _ _ _ _ (s .pre .1 .1 .1) (c .before .before .before .put-open .ensures .next), s .pre .1 .1 .1 .room)
+put-all-requires c κs =
+    let a = c .before .before .before in
+    let s = a .before .before .before .before .before .before in
+    omega (arith, open-ends _ _ _ _ _ _ _ (s .pre .1 .1 .1) (a .put-open .ensures .next), s .pre .1 .1 .1 .room)
 
 put-sealed-requires : tie.Need-put-sealed-requires
-put-sealed-requires c κs = 
-    let s = c .before .before .before .before .before .before .before .before .before .before .before .before .before in
-    let b = open-ends _ _ _ _ _ _ _ (s .pre .1 .1 .1) (c .before .before .before .before .before .before .before .put-open .ensures .next) in
-    let e = c .before .before .before .put-all .ensures .next in
-    (s .pre .1 .0, (s .pre .1 .1 .0, ((omega (arith, e), omega (arith, b, e)), omega (arith, b, e, s .pre .1 .1 .1 .room))))
+put-sealed-requires c κs =
+    let b = c .before .before .before in
+    let a = b .before .before .before .before in
+    let s = a .before .before .before .before .before .before in
+    let e = b .put-all .ensures .next in
+    let w = open-ends _ _ _ _ _ _ _ (s .pre .1 .1 .1) (a .put-open .ensures .next) in
+    (s .pre .1 .0, (s .pre .1 .1 .0, ((omega (arith, e), omega (arith, w, e)), omega (arith, w, e, s .pre .1 .1 .1 .room))))
 
 put-fcs-requires : tie.Need-put-fcs-requires
-put-fcs-requires c κs = 
-    let s = c .before .before .before .before .before .before .before .before .before .before .before .before .before .before .before .before .before in
-    let b = open-ends _ _ _ _ _ _ _ (s .pre .1 .1 .1) (c .before .before .before .before .before .before .before .before .before .before .before .put-open .ensures .next) in
-    let e = c .before .before .before .before .before .before .before .put-all .ensures .next in
-    let t = tag-ends (s .args .key .now) (s .args .nonce) (s .args .q .level) (c .before .before .before .before .before .before .before .before .before .before .before .put-open .result) (c .before .before .before .before .before .before .before .put-all .result) (omega (arith, e)) (omega (arith, b, e, s .pre .1 .1 .1 .room)) (c .before .before .before .put-sealed .ensures) in
-    (s .pre .0, omega (arith, b, e, t, s .pre .1 .1 .1 .room))
-
-same-length : tie.Need-same-length
-same-length c = search needs
+put-fcs-requires c κs =
+    let d = c .before .before .before in
+    let b = d .before .before .before .before in
+    let a = b .before .before .before .before in
+    let s = a .before .before .before .before .before .before in
+    let e = b .put-all .ensures .next in
+    let w = open-ends _ _ _ _ _ _ _ (s .pre .1 .1 .1) (a .put-open .ensures .next) in
+    let t =
+    tag-ends (s .args .key .now) (s .args .nonce) (s .args .q .level) (a .put-open .result) (b .put-all .result)
+    (omega (arith, e)) (omega (arith, w, e, s .pre .1 .1 .1 .room)) (d .put-sealed .ensures) in
+    (s .pre .0, omega (arith, w, e, t, s .pre .1 .1 .1 .room))
 
 returns : tie.Need-returns
-returns c = 
-    secured-put _ _ _ _ _ _ _ _ refl (c .before .before .before .before .before .before .before .before .before .before .before .before .before .before .before .before .before .before .before .before .pre .1 .1 .1) (c .before .before .before .before .before .before .before .before .before .before .before .before .before .before .put-open .ensures) (c .before .before .before .before .before .before .before .before .before .before .put-all .ensures)
-    (c .before .before .before .before .before .before .put-sealed .ensures) (c .before .before .put-fcs .ensures)
+returns c =
+    let g = c .before .before in
+    let d = g .before .before .before .before in
+    let b = d .before .before .before .before in
+    let a = b .before .before .before .before in
+    let s = a .before .before .before .before .before .before in
+    secured-put _ _ _ _ _ _ _ _ refl (s .pre .1 .1 .1) (a .put-open .ensures) (b .put-all .ensures) (d .put-sealed .ensures) (g .put-fcs .ensures)
 
 pub put-secured-spec : {M : Type 1} → statement M
 put-secured-spec =
@@ -45,5 +54,5 @@ put-secured-spec =
     put-all-requires
     put-sealed-requires
     put-fcs-requires
-    same-length
+    (λ c. search needs)
     returns)

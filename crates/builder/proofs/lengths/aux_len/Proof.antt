@@ -12,9 +12,6 @@ use Rattle.builder.proofs.lengths.aux_len.Tie as tie
 returns : tie.Need-returns
 returns c = search aux-none
 
-key-id-len-requires : tie.Need-key-id-len-requires
-key-id-len-requires c κs = search needs
-
 add-result : tie.Need-add-result
 add-result c = omega (arith, c .key-id-len .ensures, key-id-bound (c .before .before .before .args .q .keymode))
 
@@ -24,4 +21,4 @@ returns-2 c =
     aux-some _ _ _ k (c .before .if1 .left) (c .key-id-len .ensures)
 
 pub aux-len-spec : {M : Type 1} → statement M
-aux-len-spec = tie.close (tie.spec returns key-id-len-requires add-result returns-2)
+aux-len-spec = tie.close (tie.spec returns (λ c κs. search needs) add-result returns-2)

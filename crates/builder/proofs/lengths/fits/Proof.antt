@@ -24,15 +24,6 @@ returns c = search open-long
 returns-2 : tie.Need-returns-2
 returns-2 c = search private-long
 
-header-by-requires : tie.Need-header-by-requires
-header-by-requires c κs = search needs
-
-head-len-requires : tie.Need-head-len-requires
-head-len-requires c κs = search needs
-
-aux-len-requires : tie.Need-aux-len-requires
-aux-len-requires c κs = search needs
-
 add-parts : tie.Need-add-parts
 add-parts c = omega (arith, few c)
 
@@ -41,9 +32,6 @@ add-parts-2 c = omega (arith, few c)
 
 add-parts-3 : tie.Need-add-parts-3
 add-parts-3 c = omega (arith, few c)
-
-tag-len-requires : tie.Need-tag-len-requires
-tag-len-requires c κs = search needs
 
 add-result : tie.Need-add-result
 add-result c = omega (arith, few (c .before), c .tag-len .ensures, tag-bound (c .before .before .before .before .before .before .before .before .before .args .q .level))
@@ -60,13 +48,13 @@ fits-spec =
     (tie.spec
     returns
     returns-2
-    header-by-requires
-    head-len-requires
-    aux-len-requires
+    (λ c κs. search needs)
+    (λ c κs. search needs)
+    (λ c κs. search needs)
     add-parts
     add-parts-2
     add-parts-3
-    tag-len-requires
+    (λ c κs. search needs)
     add-result
     add-result-2
     returns-3)

@@ -5,14 +5,8 @@ use borrow.Author.Needs.{needs}
 use Rattle.builder.proofs.lengths.head_len.Statement.{statement}
 use Rattle.builder.proofs.lengths.head_len.Tie as tie
 
-placed-len-requires : tie.Need-placed-len-requires
-placed-len-requires c κs = search needs
-
 add-result : tie.Need-add-result
 add-result c = omega (arith, c .placed-len .ensures, placed-bound (c .before .args .h .destination))
-
-source-len-requires : tie.Need-source-len-requires
-source-len-requires c κs = search needs
 
 add-result-2 : tie.Need-add-result-2
 add-result-2 c = omega (arith, c .before .placed-len .ensures, c .source-len .ensures, placed-bound (c .before .before .args .h .destination), source-bound (c .before .before .args .h))
@@ -22,4 +16,4 @@ returns c = search head-sum
 
 pub head-len-spec : {M : Type 1} → statement M
 head-len-spec =
-    tie.close (tie.spec placed-len-requires add-result source-len-requires add-result-2 returns)
+    tie.close (tie.spec (λ c κs. search needs) add-result (λ c κs. search needs) add-result-2 returns)

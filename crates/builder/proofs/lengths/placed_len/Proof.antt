@@ -9,9 +9,6 @@ use Rattle.builder.proofs.lengths.placed_len.Tie as tie
 returns : tie.Need-returns
 returns c = search placed-none
 
-address-len-requires : tie.Need-address-len-requires
-address-len-requires c κs = search needs
-
 add-result : tie.Need-add-result
 add-result c = omega (arith, c .address-len .ensures, address-bound (c .before .before .before .args .a .mode))
 
@@ -19,4 +16,4 @@ returns-2 : tie.Need-returns-2
 returns-2 c = search placed-some
 
 pub placed-len-spec : {M : Type 1} → statement M
-placed-len-spec = tie.close (tie.spec returns address-len-requires add-result returns-2)
+placed-len-spec = tie.close (tie.spec returns (λ c κs. search needs) add-result returns-2)

@@ -7,23 +7,8 @@ use borrow.Author.Needs.{needs}
 use Rattle.builder.proofs.put.put_fcs.Statement.{statement}
 use Rattle.builder.proofs.put.put_fcs.Tie as tie
 
-slice-reshare-prefix-sum-with : tie.Need-slice-reshare-prefix-sum-with
-slice-reshare-prefix-sum-with c = search needs
-
 slice-aggregate-sum-with : tie.Need-slice-aggregate-sum-with
 slice-aggregate-sum-with c = sym (length-take-le _ _ (omega arith))
-
-sum-with-requires : tie.Need-sum-with-requires
-sum-with-requires c κs = search needs
-
-put16-requires : tie.Need-put16-requires
-put16-requires c κs = search needs
-
-add-result : tie.Need-add-result
-add-result c = search needs
-
-same-length : tie.Need-same-length
-same-length c = search needs
 
 returns : tie.Need-returns
 returns c = search fcs-put
@@ -32,10 +17,10 @@ pub put-fcs-spec : {M : Type 1} → statement M
 put-fcs-spec =
     tie.close
     (tie.spec
-    slice-reshare-prefix-sum-with
+    (λ c. search needs)
     slice-aggregate-sum-with
-    sum-with-requires
-    put16-requires
-    add-result
-    same-length
+    (λ c κs. search needs)
+    (λ c κs. search needs)
+    (λ c. search needs)
+    (λ c. search needs)
     returns)

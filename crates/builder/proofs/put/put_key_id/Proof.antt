@@ -20,9 +20,6 @@ known c = omega (arith, c .key-source-len .ensures, key-source-bound (c .before 
 returns : tie.Need-returns
 returns c = search key-id-none
 
-key-source-len-requires : tie.Need-key-source-len-requires
-key-source-len-requires c κs = search needs
-
 array-share-prefix-source : tie.Need-array-share-prefix-source
 array-share-prefix-source c = omega (arith, known (c .before), eight (c .before .before .before))
 
@@ -33,12 +30,9 @@ put-all-requires : tie.Need-put-all-requires
 put-all-requires c κs = let e = slice-aggregate-put-all c in omega (arith, known (c .before .before), e)
 
 put-octet-requires : tie.Need-put-octet-requires
-put-octet-requires c κs = 
+put-octet-requires c κs =
     let s = c .before .before .before .before in
     omega (arith, known (s .before .before), slice-aggregate-put-all s, c .before .before .before .put-all .ensures .next)
-
-same-length : tie.Need-same-length
-same-length c = search needs
 
 returns-2 : tie.Need-returns-2
 returns-2 c = search key-id-some depth 9
@@ -48,10 +42,10 @@ put-key-id-spec =
     tie.close
     (tie.spec
     returns
-    key-source-len-requires
+    (λ c κs. search needs)
     array-share-prefix-source
     slice-aggregate-put-all
     put-all-requires
     put-octet-requires
-    same-length
+    (λ c. search needs)
     returns-2)

@@ -6,23 +6,14 @@ use borrow.Author.Needs.{needs}
 use Rattle.builder.proofs.put.put_open.Statement.{statement}
 use Rattle.builder.proofs.put.put_open.Tie as tie
 
-put-head-requires : tie.Need-put-head-requires
-put-head-requires c κs = search needs
-
 put-aux-requires : tie.Need-put-aux-requires
-put-aux-requires c κs = 
+put-aux-requires c κs =
     let s = c .before .before .before .before .before .before .before in
     ((s .pre .level, s .pre .mode), omega (arith, head-bound (s .args .h), c .before .before .before .put-head .ensures .next, s .pre .room))
-
-put-all-requires : tie.Need-put-all-requires
-put-all-requires c κs = search needs
-
-same-length : tie.Need-same-length
-same-length c = search needs
 
 returns : tie.Need-returns
 returns c = search open-put
 
 pub put-open-spec : {M : Type 1} → statement M
 put-open-spec =
-    tie.close (tie.spec put-head-requires put-aux-requires put-all-requires same-length returns)
+    tie.close (tie.spec (λ c κs. search needs) put-aux-requires (λ c κs. search needs) (λ c. search needs) returns)

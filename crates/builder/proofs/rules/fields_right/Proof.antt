@@ -1,7 +1,7 @@
 -- `builder::rules::fields_right` meets its contract: each test on the way decides, or the last. Assumes nothing.
 use mathlib.Core.Path.{refl}
-use Rattle.meaning.proofs.Joined.{joined, joined-calls, on-and, off-and, off-or, on-and-by, off-and-by}
-use Rattle.meaning.proofs.Tests.{bools, compared, eq-by, not-off}
+use Rattle.meaning.proofs.Joined.{joined, joined-calls, on-and-by, off-and-by}
+use Rattle.meaning.proofs.Tests.{bools, compared}
 use Rattle.builder.proofs.Joins.{ranged}
 use borrow.Author.Tests.{not-true, not-false}
 use borrow.Author.Needs.{needs}
@@ -27,14 +27,14 @@ returns-4 c = search (joined, joined-calls, bools, compared, not-true, not-false
 
 returns-5 : tie.Need-returns-5
 unfolding fieldsRight
-returns-5 c = 
+returns-5 c =
     let x = c .before .before in
     ranged _ _ _ _ _ _ (x .before .before .before .before .before .before .if1 .left) (x .before .before .before .before .if2 .left) (x .before .before .if3 .left) (x .if4 .left)
     (off-and-by _ _ _ _ (c .before .version-right .ensures) (not-true _ (c .if5 .taken)) refl)
 
 returns-6 : tie.Need-returns-6
 unfolding fieldsRight
-returns-6 c = 
+returns-6 c =
     let v = c .before .before .before in
     let x = v .before in
     ranged _ _ _ _ _ _ (x .before .before .before .before .before .before .if1 .left) (x .before .before .before .before .if2 .left) (x .before .before .if3 .left) (x .if4 .left)
@@ -43,7 +43,7 @@ returns-6 c =
 
 returns-7 : tie.Need-returns-7
 unfolding fieldsRight
-returns-7 c = 
+returns-7 c =
     let m = c .before .before in
     let v = m .before .before in
     let x = v .before in

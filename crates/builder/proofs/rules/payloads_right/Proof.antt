@@ -8,15 +8,9 @@ use borrow.Author.Needs.{needs}
 use Rattle.builder.proofs.rules.payloads_right.Statement.{statement}
 use Rattle.builder.proofs.rules.payloads_right.Tie as tie
 
-open-len-requires : tie.Need-open-len-requires
-open-len-requires c κs = search needs
-
 returns : tie.Need-returns
 unfolding payloadsRight
 returns c = search (joined, compared)
-
-pending-right-requires : tie.Need-pending-right-requires
-pending-right-requires c κs = search needs
 
 returns-2 : tie.Need-returns-2
 unfolding payloadsRight
@@ -31,7 +25,7 @@ returns-3 c = on-and _ _ _ (eq-by _ _ _ (c .before .before .before .before .open
 
 returns-4 : tie.Need-returns-4
 unfolding payloadsRight
-returns-4 c = 
+returns-4 c =
     on-and _ _ _ (eq-by _ _ _ (c .before .before .before .before .open-len .ensures) (c .before .before .before .if1 .left))
     (on-and-by _ _ _ _ (c .before .before .pending-right .ensures) (not-false _ (c .before .if2 .left))
     (off-or _ _ _ (not-off _ (eq-eqb _ _ (c .if3 .left))) refl))
@@ -39,4 +33,4 @@ returns-4 c =
 pub payloads-right-spec : {M : Type 1} → statement M
 payloads-right-spec =
     tie.close
-    (tie.spec open-len-requires returns pending-right-requires returns-2 returns-3 returns-4)
+    (tie.spec (λ c κs. search needs) returns (λ c κs. search needs) returns-2 returns-3 returns-4)

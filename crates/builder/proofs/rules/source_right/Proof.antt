@@ -12,12 +12,9 @@ returns : tie.Need-returns
 unfolding sourceRight
 returns c = search (joined, bools) depth 9
 
-number16-requires : tie.Need-number16-requires
-number16-requires c κs = search needs
-
 returns-2 : tie.Need-returns-2
 unfolding sourceRight shortAddress
 returns-2 c = search (joined, bools, lt-last) depth 9
 
 pub source-right-spec : {M : Type 1} → statement M
-source-right-spec = tie.close (tie.spec returns number16-requires returns-2)
+source-right-spec = tie.close (tie.spec returns (λ c κs. search needs) returns-2)
