@@ -20,3 +20,4 @@ pub mod Pairs
 pub mod Symmetric
 pub mod Useless
 pub mod Honest
+pub mod Lines

@@ -2,3 +2,4 @@ pub mod Round
 pub mod Borders
 pub mod Secrecy
 pub mod Useless
+pub mod Lines

@@ -1,17 +1,16 @@
 -- What is printed, frame by frame; and that it depends on the answers alone.
 -- Assumes nothing.
-use mathlib.Core.Path.{_≡_, refl, sym, ap, ap₂, _∙_}
+use mathlib.Core.Path.{_≡_, refl, ap, ap₂}
 use mathlib.Core.Bool.{Bool, true, false}
 use mathlib.Core.List.{List, [], _∷_, _++_, append-assoc}
-use Prim.Native.Nat.{ℕ, zero, suc, _+_, _-_, _≤_, _<_}
+use Prim.Native.Nat.{ℕ, zero, suc, _≤_, _<_}
 use native.Mathlib.Omega.{arith}
-use native.Mathlib.Decide.{decLt}
 use lib.ListN.{length, take, drop, length-drop}
 use borrow.Author.Tests.{lt-ltb, le-ltb}
 use Rattle.meaning.specs.Receive.{received}
 use Rattle.meaning.specs.declared.Received.{Received}
 use Rattle.lines.specs.Text.{cutLine, lineOf}
-use Rattle.lines.specs.Log.{Items, none, with, itemsBy, items, answers, linesFrom, ending, printedFrom}
+use Rattle.lines.specs.Log.{none, with, itemsBy, items, answers, linesFrom, ending, printedFrom}
 
 -- ---- the items
 -- a bound that is large enough does not matter

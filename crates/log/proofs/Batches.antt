@@ -1,8 +1,7 @@
 -- The frames at hand, answered one after the other: what is to be printed is the text so far, and then what is to be printed of the rest.
 -- Assumes nothing.
 use mathlib.Core.Path.{_≡_, refl, sym, ap, ap₂, _∙_}
-use mathlib.Core.Bool.{Bool, true, false}
-use mathlib.Core.List.{List, [], _∷_, _++_, append-assoc}
+use mathlib.Core.List.{List, _++_, append-assoc}
 use Prim.Native.Nat.{ℕ, suc, _+_, _-_, _≤_, _<_}
 use native.Mathlib.Nat.{le-refl}
 use native.Mathlib.Numerals.{add-one}
@@ -11,7 +10,6 @@ use lib.Dec.{leb, ltb}
 use lib.ListN.{length, getD, take, drop, length-append}
 use lib.Seq.{take-append-le, drop-append-le}
 use borrow.Author.Tests.{leb-true, ltb-true, lt-ltb, le-leb, lt-leb}
-use Rattle.meaning.specs.Octets.{pick}
 use Rattle.meaning.specs.Site.{siteRule}
 use Rattle.meaning.specs.Receive.{received}
 use Rattle.meaning.proofs.Scan.{pick-all}
@@ -21,7 +19,6 @@ use Rattle.lines.specs.Log.{printedFrom}
 use Rattle.lines.proofs.Puts.{taken, long}
 use Rattle.lines.proofs.Log.{printed-frame}
 use Rattle.log.specs.Buffers.{hand, endOf, nextEnd, Stepped, Batched}
-use Rattle.log.specs.declared.Progress.{Progress}
 use Rattle.log.proofs.Hands.{hand-cons, length-hand, take-hand, drop-hand}
 
 -- ---- the frame that is answered next
@@ -123,13 +120,13 @@ frame-goes k s o b at have fit h w f e z =
     ap (λ (x : List ℕ). printedFrom k s o (x ++ z)) (hand-cons b at have fit h)
     ∙ printed-frame k s o n (l ++ z) (omega (arith, length-append l z))
     ∙ ap₂
-        (λ (x y : List ℕ).
-        lineOf k (received s x o .answer .status) (received s x o .answer .private)
-        ++ printedFrom (suc k) (received s x o .site) (received s x o .out) y)
-        t d
+    (λ (x y : List ℕ).
+    lineOf k (received s x o .answer .status) (received s x o .answer .private)
+    ++ printedFrom (suc k) (received s x o .site) (received s x o .out) y)
+    t d
 
 module _ (s₀ o₀ : List ℕ) (first : ℕ) (b : List ℕ) (from have : ℕ) (t₀ s o t : List ℕ) (number at used : ℕ) (fit : have ≤ length b)
-  (g : Going s₀ o₀ first b from have t₀ s o t number at used) where
+    (g : Going s₀ o₀ first b from have t₀ s o t number at used) where
   more-by : (e : ℕ) → Frame number (length t - used) b at have e → at < e → (f s′ o′ t′ : List ℕ) (r : ℕ) → f ≡ take (e - (at + 1)) (drop (at + 1) b)
       → Stepped s f o number t used s′ o′ t′ r → Going s₀ o₀ first b from have t₀ s′ o′ t′ (number + 1) e r
   more-by e none l f s′ o′ t′ r q p = absurd (omega arith)

@@ -1,3 +1,4 @@
 pub mod Hands
 pub mod Batches
 pub mod Openings
+pub mod Replies

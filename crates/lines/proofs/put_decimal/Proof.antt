@@ -1,11 +1,9 @@
 -- `lines::put_decimal` meets its contract. The loop's invariant: the number's digits are those of what is left and then those stored.
 -- Assumes nothing.
 use borrow.Author.Needs.{needs}
-use mathlib.Core.Path.{_≡_, refl, sym, _∙_}
-use Prim.Native.Nat.{ℕ}
+use mathlib.Core.Path.{refl}
 use native.Mathlib.Omega.{arith}
 use lib.ListN.{length-take, length-set}
-use Rattle.lines.specs.Text.{decimal}
 use Rattle.lines.proofs.Numbers.{few, Spelled, spelled-none, spelled-past, spelled-more, spelled-last}
 use Rattle.lines.proofs.put_decimal.Statement.{statement}
 use Rattle.lines.proofs.put_decimal.Tie as tie

@@ -1,7 +1,7 @@
 -- `log::batch` meets its contract. The loop's invariant: what was to be printed is the text so far and what is to be printed of the rest.
 -- Assumes nothing.
 use borrow.Author.Needs.{needs}
-use mathlib.Core.Path.{_≡_, refl, sym, _∙_}
+use mathlib.Core.Path.{refl, sym, _∙_}
 use Prim.Native.Nat.{_-_}
 use native.Mathlib.Omega.{arith}
 use Rattle.log.proofs.Batches.{next-facts, Going, going-none, going-more, going-end}

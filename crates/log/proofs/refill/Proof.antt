@@ -2,11 +2,11 @@
 -- Assumes nothing.
 use borrow.Author.Needs.{needs}
 use native.Mathlib.Omega.{arith}
-use mathlib.Core.Path.{_≡_, refl, sym, _∙_}
-use Prim.Native.Nat.{ℕ, _+_, _-_, _≤_}
+use mathlib.Core.Path.{_≡_, _∙_}
+use Prim.Native.Nat.{_+_, _-_, _≤_}
 use borrow.Rule.Slice.PartMut.{same-len-mid}
 use Rattle.log.proofs.Hands.{behind, Moved, moved-none, moved-more, refilled}
-use lib.ListN.{length, length-set}
+use lib.ListN.{length}
 use Rattle.log.proofs.refill.Statement.{statement}
 use Rattle.log.proofs.refill.Tie as tie
 

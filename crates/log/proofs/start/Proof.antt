@@ -1,153 +1,144 @@
+-- `log::start` meets its contract.
+-- Assumes nothing.
+use mathlib.Core.Path.{sym}
+use native.Mathlib.Omega.{arith}
+use lib.ListN.{length-take}
+use lib.Seq.{length-take-le}
+use Rattle.log.proofs.Openings.{site-fits}
 use borrow.Author.Needs.{needs}
 use Rattle.log.proofs.start.Statement.{statement}
 use Rattle.log.proofs.start.Tie as tie
-use Rattle.log.proofs.start.Reads as reads
-use Rattle.log.proofs.start.Lts as lts
-use Rattle.io.proofs.write_all.Reads as write-all-reads
-use Rattle.lines.proofs.cut.Reads as cut-reads
-use Rattle.lines.proofs.heading.Reads as heading-reads
-use Rattle.lines.proofs.site.Reads as site-reads
-use Rattle.log.proofs.beginning.Reads as beginning-reads
-use Rattle.log.proofs.run.Reads as run-reads
-use Rattle.octets.proofs.copy_in.Reads as copy-in-reads
 
--- src/main.rt:261:9
 heading-requires : tie.Need-heading-requires
 heading-requires c κs = search needs
 
--- src/main.rt:262:11
 beginning-requires : tie.Need-beginning-requires
 beginning-requires c κs = search needs
 
--- src/main.rt:264:32
 enum-told : tie.Need-enum-told
 enum-told c = search needs
 
--- src/main.rt:264:17
 cut-requires : tie.Need-cut-requires
 cut-requires c κs = search needs
 
--- src/main.rt:265:42
 slice-reshare-prefix-write-all : tie.Need-slice-reshare-prefix-write-all
 slice-reshare-prefix-write-all c = search needs
 
--- src/main.rt:265:42
 slice-aggregate-write-all : tie.Need-slice-aggregate-write-all
-slice-aggregate-write-all c = ?
+slice-aggregate-write-all c = sym (length-take-le _ _ (search needs))
 
--- src/main.rt:265:13
 write-all-requires : tie.Need-write-all-requires
 write-all-requires c κs = search needs
 
--- src/main.rt:268:33
 enum-told-2 : tie.Need-enum-told-2
 enum-told-2 c = search needs
 
--- src/main.rt:268:17
 site-requires : tie.Need-site-requires
 site-requires c κs = search needs
 
--- src/main.rt:269:42
 slice-reshare-prefix-write-all-2 : tie.Need-slice-reshare-prefix-write-all-2
 slice-reshare-prefix-write-all-2 c = search needs
 
--- src/main.rt:269:42
 slice-aggregate-write-all-2 : tie.Need-slice-aggregate-write-all-2
-slice-aggregate-write-all-2 c = ?
+slice-aggregate-write-all-2 c = sym (length-take-le _ _ (search needs))
 
--- src/main.rt:269:13
 write-all-requires-2 : tie.Need-write-all-requires-2
 write-all-requires-2 c κs = search needs
 
--- src/main.rt:271:23
 enum-known-n : tie.Need-enum-known-n
 enum-known-n c = search needs
 
--- src/main.rt:272:42
 slice-reshare-prefix-write-all-3 : tie.Need-slice-reshare-prefix-write-all-3
 slice-reshare-prefix-write-all-3 c = search needs
 
--- src/main.rt:272:42
 slice-aggregate-write-all-3 : tie.Need-slice-aggregate-write-all-3
-slice-aggregate-write-all-3 c = ?
+slice-aggregate-write-all-3 c = sym (length-take-le _ _ (search needs))
 
--- src/main.rt:272:13
 write-all-requires-3 : tie.Need-write-all-requires-3
 write-all-requires-3 c κs = search needs
 
--- src/main.rt:274:29
 slice-aggregate-copy-in : tie.Need-slice-aggregate-copy-in
 slice-aggregate-copy-in c = search needs
 
--- src/main.rt:274:52
 add-copy-in : tie.Need-add-copy-in
-add-copy-in c = ?
+add-copy-in c =
+    let x = c .before .before .before .before in
+    let a = x .before .before .before .before .before .before .before .before .before .before in
+    let f = site-fits _ _ _ _ (a .pre .0) (x .before .before .beginning .ensures) (x .n .given .1) in
+    omega arith
 
--- src/main.rt:274:44
 sub-copy-in : tie.Need-sub-copy-in
 sub-copy-in c = search needs
 
--- src/main.rt:274:44
 part-copy-in-start : tie.Need-part-copy-in-start
 part-copy-in-start c = search needs
 
--- src/main.rt:274:44
 part-copy-in-end : tie.Need-part-copy-in-end
-part-copy-in-end c = ?
+part-copy-in-end c =
+    let x = c .before .before .before .before .before in
+    let a = x .before .before .before .before .before .before .before .before .before .before in
+    let f = site-fits _ _ _ _ (a .pre .0) (x .before .before .beginning .ensures) (x .n .given .1) in
+    omega (arith, a .pre .0)
 
--- src/main.rt:274:13
 copy-in-requires : tie.Need-copy-in-requires
-copy-in-requires c κs = ?
+copy-in-requires c κs =
+    let x = c .before .before .before .before .before .before in
+    let a = x .before .before .before .before .before .before .before .before .before .before in
+    let f = site-fits _ _ _ _ (a .pre .0) (x .before .before .beginning .ensures) (x .n .given .1) in
+    simp length-take (omega arith)
 
--- src/main.rt:275:17
 array-borrow-prefix-space : tie.Need-array-borrow-prefix-space
-array-borrow-prefix-space c = ?
+array-borrow-prefix-space c =
+    let x = c .before .before .before .before .before .before .before .before in
+    let a = x .before .before .before .before .before .before .before .before .before .before in
+    let f = site-fits _ _ _ _ (a .pre .0) (x .before .before .beginning .ensures) (x .n .given .1) in
+    omega (arith, c .before .copy-in .kept .0)
 
--- src/main.rt:275:17
 slice-aggregate-run : tie.Need-slice-aggregate-run
-slice-aggregate-run c = ?
+slice-aggregate-run c =
+    let x = c .before .before .before .before .before .before .before .before .before in
+    let a = x .before .before .before .before .before .before .before .before .before .before in
+    let f = site-fits _ _ _ _ (a .pre .0) (x .before .before .beginning .ensures) (x .n .given .1) in
+    sym (length-take-le _ _ (omega (arith, c .before .before .copy-in .kept .0)))
 
--- src/main.rt:275:39
 add-run : tie.Need-add-run
-add-run c = ?
+add-run c =
+    let x = c .before .before .before .before .before .before .before .before .before .before in
+    let a = x .before .before .before .before .before .before .before .before .before .before in
+    let f = site-fits _ _ _ _ (a .pre .0) (x .before .before .beginning .ensures) (x .n .given .1) in
+    omega arith
 
--- src/main.rt:275:13
 run-requires : tie.Need-run-requires
-run-requires c κs = ?
+run-requires c κs =
+    let x = c .before .before .before .before .before .before .before .before .before .before .before in
+    let a = x .before .before .before .before .before .before .before .before .before .before in
+    let f = site-fits _ _ _ _ (a .pre .0) (x .before .before .beginning .ensures) (x .n .given .1) in
+    (f .1, a .pre .0, omega (arith, c .before .before .before .before .before .before .before .before .before .before .before .before .before .before .before .before .before .heading .kept .0, a .pre .1))
 
--- src/main.rt:258:1
 same-length : tie.Need-same-length
 same-length c = search needs
 
--- src/main.rt:258:1
 same-length-2 : tie.Need-same-length-2
 same-length-2 c = search needs
 
--- src/main.rt:258:1
 returns : tie.Need-returns
 returns c = search needs
 
--- src/main.rt:258:1
 same-length-3 : tie.Need-same-length-3
 same-length-3 c = search needs
 
--- src/main.rt:258:1
 same-length-4 : tie.Need-same-length-4
 same-length-4 c = search needs
 
--- src/main.rt:258:1
 returns-2 : tie.Need-returns-2
 returns-2 c = search needs
 
--- src/main.rt:258:1
 same-length-5 : tie.Need-same-length-5
 same-length-5 c = search needs
 
--- src/main.rt:258:1
 same-length-6 : tie.Need-same-length-6
 same-length-6 c = search needs
 
--- src/main.rt:258:1
 returns-3 : tie.Need-returns-3
 returns-3 c = search needs
 

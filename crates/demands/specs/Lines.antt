@@ -1,0 +1,28 @@
+-- Demand 3 for the log program: two inputs that pair up print the same lines. Assumes nothing: these are definitions.
+-- siteIn, restIn   the site of an input, and the octets after it
+-- AlikeInputs      two inputs whose sites are equal outside the key octets, and whose frames pair up
+use Prim.Native.Nat.{ℕ, _+_}
+use mathlib.Core.Path.{_≡_}
+use mathlib.Core.List.{List}
+use lib.ListN.{length, drop, replicate}
+use Rattle.meaning.specs.Octets.{leAt, part}
+use Rattle.lines.specs.Log.{items, printed}
+use Rattle.demands.specs.Secrecy.{AlikeSites, Paired}
+
+unfoldable pub siteIn : List ℕ → List ℕ
+siteIn i = part 2 (leAt 2 i 0) i
+
+unfoldable pub restIn : List ℕ → List ℕ
+restIn i = drop (2 + leAt 2 i 0) i
+
+pub record AlikeInputs (i j : List ℕ) : Type 0 where
+  pub lengths : length i ≡ length j
+  -- the lengths that they say of their sites
+  pub sizes : leAt 2 i 0 ≡ leAt 2 j 0
+  pub sites : AlikeSites (siteIn i) (siteIn j)
+  pub frames : Paired (siteIn i) (siteIn j) (replicate 127 0) (replicate 127 0) (items (restIn i) .frames) (items (restIn j) .frames)
+  -- both end inside an item, or neither
+  pub cuts : items (restIn i) .cut ≡ items (restIn j) .cut
+
+unfoldable pub SameLines : Type 0
+SameLines = (i j : List ℕ) → AlikeInputs i j → printed i ≡ printed j
