@@ -1,15 +1,15 @@
 -- A security header that was written is measured and read again, for every level, key mode and counter. Assumes nothing.
-use mathlib.Core.Path.{_≡_, refl, sym, ap, ap₂, _∙_}
+use mathlib.Core.Path.{_≡_, refl, sym, _∙_}
 use mathlib.Core.Logic.{_≢_}
-use Prim.Native.Nat.{ℕ, zero, suc, _+_, _*_, _/_, _%_, _^_, _≤_, _<_}
+use Prim.Native.Nat.{ℕ, _+_, _*_, _/_, _%_, _^_, _≤_, _<_}
 use native.Mathlib.Omega.{arith}
 use mathlib.Core.Bool.{Bool, true, false, not}
-use mathlib.Core.List.{List, [], _∷_, _++_}
-use lib.ListN.{length, getD, take, drop, length-append, length-take}
+use mathlib.Core.List.{[], _∷_, _++_}
+use lib.ListN.{length, getD, take, length-append}
 use lib.Seq.{length-take-le}
 use lib.Dec.{eqb}
-use borrow.Author.Tests.{eqb-true, eqb-false, eq-eqb, ne-eqb}
-use Rattle.meaning.specs.Octets.{pick, leAt, octs}
+use borrow.Author.Tests.{eqb-true, ne-eqb}
+use Rattle.meaning.specs.Octets.{pick, octs}
 use Rattle.meaning.specs.Frame.{levelOf, modeOf, counterOf, keySourceLen, keyIdLen, auxM}
 use Rattle.meaning.specs.Build.{bit, keyIdOctets, auxOctets}
 use Rattle.meaning.specs.declared.Request.{Request}

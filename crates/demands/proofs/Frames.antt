@@ -1,22 +1,18 @@
 -- The frame that a build gives: what the receiver is shown of it, and that statuses 3, 4, 5 and 7 never strike it. Assumes nothing.
-use mathlib.Core.Path.{_≡_, refl, sym, ap, ap₂, _∙_}
-use mathlib.Core.Logic.{_≢_}
-use Prim.Native.Nat.{ℕ, zero, suc, _+_, _*_, _/_, _%_, _-_, _^_, _≤_, _<_}
+use mathlib.Core.Path.{_≡_, refl, sym, ap, _∙_}
+use Prim.Native.Nat.{ℕ, _+_, _-_, _≤_}
 use native.Mathlib.Omega.{arith}
-use mathlib.Core.Bool.{Bool, true, false, _&&_, _||_, not}
-use mathlib.Core.List.{List, [], _∷_, _++_}
-use lib.ListN.{length, getD, take, drop, length-append}
+use mathlib.Core.Bool.{Bool, true, false, _&&_, not}
+use mathlib.Core.List.{List, _++_}
+use lib.ListN.{length, drop, length-append}
 use lib.Seq.{take-at, drop-at}
-use lib.Dec.{eqb, leb, ltb}
-use borrow.Author.Tests.{le-leb, eq-eqb}
-use Rattle.meaning.specs.Octets.{same}
-use Rattle.meaning.specs.Frame.{typeOf, securityOf, levelOf, tagLen, headM, auxM, openM, headerOf, View, view, openEnd, privateLen, headRight, bodied, pendingRight}
+use lib.Dec.{eqb}
+use borrow.Author.Tests.{le-leb}
+use Rattle.meaning.specs.Frame.{typeOf, securityOf, levelOf, tagLen, auxM, openM, View, view, openEnd, privateLen, headRight, bodied}
 use Rattle.meaning.specs.Fcs.{fcs, inner, fcsRight}
 use Rattle.meaning.specs.Site.{Tables, Store}
-use Rattle.meaning.specs.Filter.{cause}
 use Rattle.meaning.specs.Receive.{check, onParts, onView, judge, judged}
 use Rattle.meaning.specs.Build.{bit, headerBy, headOctets, auxOctets, frameLen, withFcs}
-use Rattle.meaning.specs.declared.Refusal.the-variants.{Filtered}
 use Rattle.meaning.specs.declared.Request.{Request}
 use Rattle.meaning.proofs.Lists.{same-self}
 use Rattle.meaning.proofs.Numbers.{length-octs}

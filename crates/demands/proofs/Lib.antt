@@ -10,3 +10,13 @@ pub mod Places
 pub mod Verdict
 pub mod Round
 pub mod Witness
+pub mod Borders
+pub mod Alike
+pub mod Secrecy
+pub mod Refusals
+pub mod Unique
+pub mod Computing
+pub mod Pairs
+pub mod Symmetric
+pub mod Useless
+pub mod Honest

@@ -7,16 +7,16 @@ use lib.ListN.{length, take, drop}
 use lib.Seq.{getD-drop}
 use Rattle.meaning.specs.Octets.{beside}
 use Rattle.meaning.specs.Site.{ownCounter, widthOf, countOf, placeOf, body, settingsOf, tablesOf, storeOf}
-use Rattle.meaning.specs.Receive.{raisedIn, outcome, write, receivedValid, received}
+use Rattle.meaning.specs.Receive.{judged, raisedIn, outcome, write, receivedValid, received}
 use Rattle.meaning.specs.Build.{headerBy, auxOctets}
 use Rattle.meaning.specs.declared.Judged.{Judged}
 use Rattle.meaning.specs.declared.Request.{Request}
 use Rattle.meaning.proofs.Numbers.{leAt-lt}
-use Rattle.demands.specs.Round.{Octets, Sent, frameSent, admission, Taken, raiseOf, reportOf, Comes-back}
+use Rattle.demands.specs.Round.{Octets, Sent, frameSent, admission, Well-formed, Taken, raiseOf, reportOf, Comes-back}
 use Rattle.demands.proofs.Asked.{Asked, asked}
 use Rattle.demands.proofs.Parts.{bodySent}
 use Rattle.demands.proofs.Made.{Making, sent}
-use Rattle.demands.proofs.Frames.{length-with, size-least, size-most}
+use Rattle.demands.proofs.Frames.{length-with, size-least, size-most, judged-is}
 use Rattle.demands.proofs.Places.{opens-is}
 use Rattle.demands.proofs.Verdict.{verdict-is}
 
@@ -36,7 +36,7 @@ body-octets : (s : List ℕ) (k : ℕ) → Octets s → Octets (body s k)
 unfolding body
 body-octets s k h = take-octets (widthOf k * countOf s k) (drop (placeOf s k) s) (drop-octets (placeOf s k) s h)
 
-settings-octets : (s : List ℕ) → Octets s → Octets (storeOf s .tables .settings)
+pub settings-octets : (s : List ℕ) → Octets s → Octets (storeOf s .tables .settings)
 unfolding storeOf tablesOf settingsOf
 settings-octets s h = take-octets 31 (body s 0) (body-octets s 0 h)
 
@@ -44,8 +44,8 @@ own-small : (s : List ℕ) → Octets s → storeOf s .own < 256 ^ 4
 unfolding storeOf ownCounter Octets
 own-small s h = leAt-lt (body s 0) (body-octets s 0 h) 4 31
 
--- ---- the theorem
-module _ (s : List ℕ) (q : Request) (o p out r out′ : List ℕ) (g : Judged) (z : Sent s q o p out) (t : Taken s q o r out′ g) where
+-- ---- the theorems
+module _ (s : List ℕ) (q : Request) (o p out : List ℕ) (z : Sent s q o p out) where
   m : Making (storeOf s) q o p (frameSent s q o p out)
   m = sent s q o p out (z .success)
 
@@ -55,28 +55,35 @@ module _ (s : List ℕ) (q : Request) (o p out r out′ : List ℕ) (g : Judged)
   right : Asked (storeOf s .tables .settings) q o p
   right = asked (storeOf s .tables .settings) q o p (m .right)
 
-  admitted-is : admission (storeOf r .tables) (headerBy (storeOf s .tables .settings) q) (auxOctets q (storeOf s .own)) o ≡ g
-  unfolding storeOf tablesOf
-  admitted-is = t .admitted
-
-  whole : received r (frameSent s q o p out) out′
-      ≡ outcome (reportOf (storeOf s) q o p g) (raisedIn (raiseOf (storeOf s .own) g) r) (beside p out′)
-  unfolding received receivedValid write
-  whole =
-      rw (
-        t .site,
-        m .is,
-        verdict-is (storeOf s) q o p (frameSent s q o p out) (z .ranged) ot (own-small s (z .octets)) m (storeOf r) (length out′) g (t .room) admitted-is (t .agreed),
-      )
-
   long : length (frameSent s q o p out) ≡ length (bodySent (storeOf s) q o p) + 2
   long = ap length (m .is) ∙ length-with (bodySent (storeOf s) q o p)
 
-  pub comes-back : Comes-back s q o p out r out′ g
-  unfolding reportOf
-  comes-back = record {
-    whole = whole;
-    opens = rw (m .is) (opens-is (storeOf s) q o p (z .ranged) ot right (m .fits));
-    least = omega (arith, long, size-least (storeOf s) q o p (z .ranged) ot right (m .fits));
-    most = omega (arith, long, size-most (storeOf s) q o p (z .ranged) ot right (m .fits));
-  }
+  pub well-formed : Well-formed s q o p out
+  unfolding storeOf tablesOf
+  well-formed =
+      record {
+        least = omega (arith, long, size-least (storeOf s) q o p (z .ranged) ot right (m .fits));
+        most = omega (arith, long, size-most (storeOf s) q o p (z .ranged) ot right (m .fits));
+        decided = λ t room k. ap (judged t room) (m .is) ∙ judged-is (storeOf s) q o p (z .ranged) ot right (m .fits) t room k;
+      }
+
+  module _ (r out′ : List ℕ) (g : Judged) (t : Taken s q o r out′ g) where
+    admitted-is : admission (storeOf r .tables) (headerBy (storeOf s .tables .settings) q) (auxOctets q (storeOf s .own)) o ≡ g
+    unfolding storeOf tablesOf
+    admitted-is = t .admitted
+
+    whole : received r (frameSent s q o p out) out′
+        ≡ outcome (reportOf (storeOf s) q o p g) (raisedIn (raiseOf (storeOf s .own) g) r) (beside p out′)
+    unfolding received receivedValid write
+    whole =
+        rw (
+          t .site,
+          m .is,
+          verdict-is (storeOf s) q o p (frameSent s q o p out) (z .ranged) ot (own-small s (z .octets)) m (storeOf r) (length out′) g
+              (t .room) admitted-is (t .agreed),
+        )
+
+    pub comes-back : Comes-back s q o p out r out′ g
+    unfolding reportOf
+    comes-back =
+        record { whole = whole; opens = rw (m .is) (opens-is (storeOf s) q o p (z .ranged) ot right (m .fits)) }

@@ -18,7 +18,7 @@ use Rattle.meaning.specs.declared.Judged.the-variants.{Plain, Secure}
 use Rattle.meaning.specs.declared.Request.{Request}
 use Rattle.meaning.proofs.Ccm.{opens-again}
 use Rattle.meaning.proofs.Ways.{Comes, to-plain, on-check, on-split, weaken, came-plain, came-secure, security-known}
-use Rattle.demands.specs.Round.{Octets, Ranged, keySent, admission, Same, Agreed, plainly, securely, deviceOf, raiseOf, reportOf}
+use Rattle.demands.specs.Round.{Octets, Ranged, keySent, admission, Agreed, plainly, securely, deviceOf, raiseOf, reportOf}
 use Rattle.demands.proofs.Asked.{Asked, asked}
 use Rattle.demands.proofs.Formed.{bare-level}
 use Rattle.demands.proofs.Auxes.{mode-read, counter-read}

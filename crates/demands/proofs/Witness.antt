@@ -3,7 +3,7 @@ use mathlib.Core.Path.{_≡_, refl}
 use Prim.Native.Nat.{ℕ, suc, _≤_, _<_}
 use native.Mathlib.Decide.{decLe}
 use native.Mathlib.Omega.{arith}
-use mathlib.Core.Bool.{Bool, true, false}
+use mathlib.Core.Bool.{true, false}
 use mathlib.Core.List.{List, [], _∷_, _++_}
 use lib.ListN.{length, getD, replicate, List·getD-eq-default}
 use lib.Dec.{T, ltb, ltb→lt}
@@ -17,7 +17,7 @@ use Rattle.meaning.specs.Build.{built, builtValid, laid, made, onCounter, onLoo
 use Rattle.meaning.specs.declared.Judged.the-variants.{Secure}
 use Rattle.meaning.specs.declared.Request.{Request}
 use Rattle.meaning.proofs.Computed.{every, at}
-use Rattle.demands.specs.Round.{Octets, Ranged, Sent, keyIn, keySent, admission, Same, Agreed, securely, Taken, Comes-back}
+use Rattle.demands.specs.Round.{Octets, Sent, keyIn, keySent, admission, Same, securely, Taken, Comes-back}
 use Rattle.demands.proofs.Round.{comes-back}
 
 -- table of contents, settings, device, level, key, lookup, usage, handle
@@ -88,4 +88,4 @@ taken = record { site = holds; room = omega arith; admitted = admitted; agreed =
 
 -- so the frame comes back
 pub returned : Comes-back site ask [] text room site room (Secure 0 0 0)
-returned = comes-back site ask [] text room site room (Secure 0 0 0) meets taken
+returned = comes-back site ask [] text room meets site room (Secure 0 0 0) taken

@@ -1,1 +1,4 @@
 pub mod Round
+pub mod Borders
+pub mod Secrecy
+pub mod Useless

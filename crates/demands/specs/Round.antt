@@ -2,9 +2,10 @@
 -- Octets, Ranged   what the machine's types say of lent octets and of a request
 -- Sent             a build that succeeds: site s, request q, open payload o, private payload p, output out
 -- frameSent        its frame
+-- Well-formed      no check before filter and policies strikes it
 -- Taken            site r, with output out′, admits it; if secured, by the sender's key, address and counter
 -- Comes-back       the one outcome of receiving it
-use Prim.Native.Nat.{ℕ, zero, suc, _+_, _≤_, _<_, _^_}
+use Prim.Native.Nat.{ℕ, suc, _+_, _≤_, _<_, _^_}
 use mathlib.Core.Path.{_≡_}
 use mathlib.Core.Bool.{true}
 use mathlib.Core.List.{List, []}
@@ -14,7 +15,7 @@ use Rattle.meaning.specs.Octets.{pick, part, beside}
 use Rattle.meaning.specs.Site.{extendedAddress, siteRule, settingsOf, Tables, tablesOf, Store, storeOf, keyAt}
 use Rattle.meaning.specs.Filter.{cause}
 use Rattle.meaning.specs.Steps.{peerOf, noDevice, keyRow, keyOf}
-use Rattle.meaning.specs.Receive.{check, split, onSecurity, Raise, keep, raise, stored, raisedIn, outcome, received}
+use Rattle.meaning.specs.Receive.{check, split, onSecurity, judged, Raise, keep, raise, stored, raisedIn, outcome, received}
 use Rattle.meaning.specs.Build.{fitted, headerBy, headOctets, auxOctets, built}
 use Rattle.meaning.specs.declared.Found.{Found}
 use Rattle.meaning.specs.declared.Found.the-variants.{At, Nothing}
@@ -62,7 +63,14 @@ unfoldable pub admission : Tables → Header → List ℕ → List ℕ → Judge
 admission t h x o =
     check (eqb (cause (t .settings) h) 0) Filtered (split (eqb (h .kind) 2) Plain (onSecurity t h x o))
 
--- key k and device d of site r are the sender's
+-- neither 3, 4, 5 nor 7 is ever the answer to a built frame: with room for it, filter and policies decide
+pub record Well-formed (s : List ℕ) (q : Request) (o p out : List ℕ) : Type 0 where
+  pub least : 5 ≤ length (frameSent s q o p out)
+  pub most : length (frameSent s q o p out) ≤ 127
+  pub decided : (t : Tables) (room : ℕ) → 127 ≤ room
+      → judged t room (frameSent s q o p out) ≡ admission t (headerBy (settingsOf s) q) (auxOctets q (storeOf s .own)) o
+
+-- key k and device d are the sender's
 pub record Same (σ τ : Store) (q : Request) (k j d : ℕ) : Type 0 where
   pub key : keyAt (τ .keys) k ≡ keySent σ q
   pub extended : getD (τ .tables .devices) d noDevice .extended ≡ extendedAddress (σ .tables .settings)
@@ -111,5 +119,3 @@ pub record Comes-back (s : List ℕ) (q : Request) (o p out r out′ : List ℕ)
       ≡ outcome (reportOf (storeOf s) q o p g) (raisedIn (raiseOf (storeOf s .own) g) r) (beside p out′)
   -- the open payload, as a part of the frame
   pub opens : part (reportOf (storeOf s) q o p g .start) (reportOf (storeOf s) q o p g .len) (frameSent s q o p out) ≡ o
-  pub least : 5 ≤ length (frameSent s q o p out)
-  pub most : length (frameSent s q o p out) ≤ 127

@@ -1,4 +1,5 @@
 pub mod Tests
+pub mod Joined
 pub mod Scan
 pub mod Lists
 pub mod Computed
@@ -9,6 +10,7 @@ pub mod Same
 pub mod Numbers
 pub mod Sums
 pub mod Frame
+pub mod Lengths
 pub mod Order
 pub mod Ways
 pub mod Ccm

@@ -1,0 +1,180 @@
+-- The premise of demand 3 is one that runs meet: two sites with different keys and five pairs of frames, accepted and refused, each outcome
+-- computed from the definitions. The private octets differ in each pair that has some, and so do tags and FCS. The last pair has no tag, so no
+-- verdict waits for the cipher. Assumes nothing.
+use mathlib.Core.Path.{_≡_, refl, ap}
+use mathlib.Core.Logic.{_≢_}
+use Prim.Native.Nat.{ℕ, _+_}
+use native.Mathlib.Omega.{arith}
+use mathlib.Core.List.{List, [], _∷_, _++_}
+use lib.ListN.{length, getD, take, drop, replicate}
+use Rattle.meaning.specs.Octets.{tab}
+use Rattle.meaning.specs.Frame.{view}
+use Rattle.meaning.specs.Fcs.{inner, fcsRight}
+use Rattle.meaning.specs.Receive.{refusal, report, Raise, keep, raise, accept, opened, Outcome, outcome, write, received}
+use Rattle.meaning.specs.Build.{withFcs}
+use Rattle.meaning.specs.declared.Refusal.the-variants.{Fcs, Filtered, CounterError}
+use Rattle.demands.specs.Secrecy.{keysAt, keysLen, AlikeSites, span, outside, Paired, Agree, Secret}
+use Rattle.demands.proofs.Secrecy.{secrecy, tags-by-status}
+use Rattle.demands.proofs.Computing.{computed}
+
+-- ---- two sites: one device, one key; the key and the device's counter are given
+abbrev pub keyA : List ℕ
+keyA = tab (λ i. 0xc0 + i) 16
+
+abbrev pub keyB : List ℕ
+keyB = tab (λ i. 0x30 + i) 16
+
+abbrev pub siteOf : List ℕ → ℕ → List ℕ
+siteOf key counter =
+    -- table of contents
+    (1 ∷ 35 ∷ 1 ∷ 0 ∷ 42 ∷ 0 ∷ 2 ∷ 17 ∷ 1 ∷ 0 ∷ 77 ∷ 0 ∷ 3 ∷ 5 ∷ 1 ∷ 0 ∷ 94 ∷ 0 ∷ 4 ∷ 16 ∷ 1 ∷ 0 ∷ 99 ∷ 0
+    ∷ 5 ∷ 22 ∷ 1 ∷ 0 ∷ 115 ∷ 0 ∷ 6 ∷ 3 ∷ 1 ∷ 0 ∷ 137 ∷ 0 ∷ 7 ∷ 2 ∷ 1 ∷ 0 ∷ 140 ∷ 0 ∷ [])
+    -- PAN 0x4321, short 1, extended 0xacde480000000001, the device is the coordinator, security on
+    ++ ((0x21 ∷ 0x43 ∷ 1 ∷ 0 ∷ 1 ∷ 0 ∷ 0 ∷ 0 ∷ 0 ∷ 0x48 ∷ 0xde ∷ 0xac ∷ 2 ∷ 0 ∷ replicate 16 0)
+    ++ ((1 ∷ 0 ∷ 0 ∷ 0 ∷ 0 ∷ [])
+    -- the device: short 2, extended 0xacde480000000002
+    ++ ((0x21 ∷ 0x43 ∷ 2 ∷ 0 ∷ 2 ∷ 0 ∷ 0 ∷ 0 ∷ 0 ∷ 0x48 ∷ 0xde ∷ 0xac ∷ counter ∷ 0 ∷ 0 ∷ 0 ∷ 0 ∷ [])
+    -- every level of data; the key; mode 1 with index 7; data; the device
+    ++ ((1 ∷ 0 ∷ 0 ∷ 0 ∷ 0 ∷ [])
+    ++ (key
+    ++ ((0 ∷ 1 ∷ 7 ∷ replicate 19 0)
+    ++ ((0 ∷ 1 ∷ 0 ∷ [])
+    ++ (0 ∷ 0 ∷ []))))))))
+
+abbrev pub siteA : List ℕ
+siteA = siteOf keyA 5
+
+abbrev pub siteB : List ℕ
+siteB = siteOf keyB 5
+
+abbrev pub empty : List ℕ
+empty = replicate 127 0
+
+-- ---- the frames
+-- unsecured data from the device, with private octets q
+abbrev pub plain : List ℕ → List ℕ
+plain q = withFcs (0x41 ∷ 0x88 ∷ 1 ∷ 0x21 ∷ 0x43 ∷ 1 ∷ 0 ∷ 2 ∷ 0 ∷ q)
+
+-- for another PAN
+abbrev pub strange : List ℕ
+strange = withFcs (0x41 ∷ 0x88 ∷ 2 ∷ 0x99 ∷ 0x99 ∷ 1 ∷ 0 ∷ 2 ∷ 0 ∷ 7 ∷ [])
+
+-- with z for an FCS
+abbrev pub spoilt : ℕ → List ℕ
+spoilt z = 0x41 ∷ 0x88 ∷ 3 ∷ 0x21 ∷ 0x43 ∷ 1 ∷ 0 ∷ 2 ∷ 0 ∷ 7 ∷ z ∷ z ∷ []
+
+-- secured at a level, with a counter; after the open octets q has the private payload and the tag
+abbrev pub secured : ℕ → ℕ → List ℕ → List ℕ
+secured level counter q =
+    withFcs (0x09 ∷ 0x18 ∷ 5 ∷ 0x21 ∷ 0x43 ∷ 1 ∷ 0 ∷ (level + 8) ∷ counter ∷ 0 ∷ 0 ∷ 0 ∷ 7 ∷ q)
+
+abbrev pub lateA : List ℕ
+lateA = secured 6 4 (1 ∷ 2 ∷ 3 ∷ 4 ∷ 5 ∷ 6 ∷ 7 ∷ 8 ∷ 9 ∷ [])
+
+abbrev pub lateB : List ℕ
+lateB = secured 6 4 (9 ∷ 8 ∷ 7 ∷ 6 ∷ 5 ∷ 4 ∷ 3 ∷ 2 ∷ 1 ∷ [])
+
+-- level 4: enciphered, without a tag
+abbrev pub untaggedA : List ℕ
+untaggedA = secured 4 5 (1 ∷ 2 ∷ [])
+
+abbrev pub untaggedB : List ℕ
+untaggedB = secured 4 5 (3 ∷ 4 ∷ [])
+
+abbrev pub framesA : List (List ℕ)
+framesA = plain (1 ∷ 2 ∷ 3 ∷ []) ∷ strange ∷ spoilt 0 ∷ lateA ∷ untaggedA ∷ []
+
+abbrev pub framesB : List (List ℕ)
+framesB = plain (4 ∷ 5 ∷ 6 ∷ []) ∷ strange ∷ spoilt 1 ∷ lateB ∷ untaggedB ∷ []
+
+-- the first pair of two lists, by its outcomes
+pair : (s t f g o p : List ℕ) (fs gs : List (List ℕ)) (x y : Outcome) → received s f o ≡ x → received t g p ≡ y
+    → x .answer .status ≡ y .answer .status → length f ≡ length g → take (span (x .answer .status) f) f ≡ take (span (x .answer .status) f) g
+    → fcsRight f ≡ fcsRight g → Paired (x .site) (y .site) (x .out) (y .out) fs gs → Paired s t o p (f ∷ fs) (g ∷ gs)
+unfolding outside
+pair s t f g o p fs gs x y ex ey e l w c rest = (
+  record {
+    lengths = l;
+    octets = rw ex w;
+    checks = c;
+    tags = tags-by-status s t f g o p (rw (ex, ey) e);
+  },
+  rw (ex, ey) rest,
+)
+
+-- ---- the outcomes
+abbrev pub outA : List ℕ
+outA = 1 ∷ 2 ∷ 3 ∷ replicate 124 0
+
+abbrev pub outB : List ℕ
+outB = 4 ∷ 5 ∷ 6 ∷ replicate 124 0
+
+-- accepted at a level, by a device, with the private octets q
+abbrev pub took : List ℕ → List ℕ → List ℕ → ℕ → ℕ → List ℕ → Raise → Outcome
+took s f o l d q r = write s o (accept (report (view (inner f)) l d) q r)
+
+pub plain-A : received siteA (plain (1 ∷ 2 ∷ 3 ∷ [])) empty ≡ took siteA (plain (1 ∷ 2 ∷ 3 ∷ [])) empty 0 0 (1 ∷ 2 ∷ 3 ∷ []) keep
+unfolding computed
+plain-A = refl
+
+pub plain-B : received siteB (plain (4 ∷ 5 ∷ 6 ∷ [])) empty ≡ took siteB (plain (4 ∷ 5 ∷ 6 ∷ [])) empty 0 0 (4 ∷ 5 ∷ 6 ∷ []) keep
+unfolding computed
+plain-B = refl
+
+pub strange-A : received siteA strange outA ≡ outcome (refusal Filtered) siteA outA
+unfolding computed
+strange-A = refl
+
+pub strange-B : received siteB strange outB ≡ outcome (refusal Filtered) siteB outB
+unfolding computed
+strange-B = refl
+
+pub spoilt-A : received siteA (spoilt 0) outA ≡ outcome (refusal Fcs) siteA outA
+unfolding computed
+spoilt-A = refl
+
+pub spoilt-B : received siteB (spoilt 1) outB ≡ outcome (refusal Fcs) siteB outB
+unfolding computed
+spoilt-B = refl
+
+pub late-A : received siteA lateA outA ≡ outcome (refusal CounterError) siteA outA
+unfolding computed
+late-A = refl
+
+pub late-B : received siteB lateB outB ≡ outcome (refusal CounterError) siteB outB
+unfolding computed
+late-B = refl
+
+-- what the cipher makes of it is left as it stands
+abbrev pub text : List ℕ → List ℕ → List ℕ
+text key f = opened key 0xacde480000000002 (view (inner f)) (inner f) .text
+
+pub untagged-A : received siteA untaggedA outA ≡ took siteA untaggedA outA 4 1 (text keyA untaggedA) (raise 0 0 5)
+unfolding computed
+untagged-A = refl
+
+pub untagged-B : received siteB untaggedB outB ≡ took siteB untaggedB outB 4 1 (text keyB untaggedB) (raise 0 0 5)
+unfolding computed
+untagged-B = refl
+
+-- ---- the premise is met
+pub sites-alike : AlikeSites siteA siteB
+unfolding computed keysAt keysLen
+sites-alike = record { lengths = refl; before = refl; after = refl }
+
+pub keys-differ : siteA ≢ siteB
+keys-differ e = let z : _≡_ {A = ℕ} 0xc0 0x30 = ap (λ (s : List ℕ). getD s 99 0) e in omega arith
+
+pub frames-paired : Paired siteA siteB empty empty framesA framesB
+unfolding computed span
+frames-paired =
+    pair siteA siteB (plain (1 ∷ 2 ∷ 3 ∷ [])) (plain (4 ∷ 5 ∷ 6 ∷ [])) empty empty (drop 1 framesA) (drop 1 framesB) _ _ plain-A plain-B refl refl refl refl
+    (pair siteA siteB strange strange outA outB (drop 2 framesA) (drop 2 framesB) _ _ strange-A strange-B refl refl refl refl
+    (pair siteA siteB (spoilt 0) (spoilt 1) outA outB (drop 3 framesA) (drop 3 framesB) _ _ spoilt-A spoilt-B refl refl refl refl
+    (pair siteA siteB lateA lateB outA outB (drop 4 framesA) (drop 4 framesB) _ _ late-A late-B refl refl refl refl
+    (pair siteA siteB untaggedA untaggedB outA outB (drop 5 framesA) (drop 5 framesB) _ _ untagged-A untagged-B refl refl refl refl
+    tt))))
+
+pub they-agree : Agree 0 siteA siteB empty empty framesA framesB
+unfolding Secret
+they-agree = secrecy siteA siteB empty framesA framesB sites-alike frames-paired

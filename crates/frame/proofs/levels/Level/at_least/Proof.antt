@@ -1,0 +1,17 @@
+-- `at_least` meets its contract: by the tests on the way.
+use Rattle.meaning.proofs.Tests.{bools}
+use Rattle.meaning.specs.Frame.{atLeast}
+use mathlib.Core.Path.{_≡_, refl, sym, ap, _∙_}
+use Rattle.frame.proofs.levels.Level.at_least.Statement.{statement}
+use Rattle.frame.proofs.levels.Level.at_least.Tie as tie
+
+returns : tie.Need-returns
+unfolding atLeast
+returns c = sym (search bools)
+
+returns-2 : tie.Need-returns-2
+unfolding atLeast
+returns-2 c = sym (search bools)
+
+pub at-least-spec : {M : Type 1} → statement M
+at-least-spec = tie.close (tie.spec returns returns-2)
