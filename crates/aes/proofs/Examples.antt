@@ -2,7 +2,7 @@
 use mathlib.Core.Path.{_≡_, refl}
 use mathlib.Core.List.{List, [], _∷_}
 use Prim.Native.Nat.{ℕ, suc, _*_, _<_}
-use lib.ListN.{take, drop}
+use lib.ListN.{drop}
 use Rattle.meaning.specs.Octets.{tab}
 use Rattle.meaning.specs.Field.{xtime, product, productBits}
 use Rattle.meaning.specs.Sbox.{sbox, affineBits, affineBit, bit, inverse, square}

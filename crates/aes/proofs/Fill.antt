@@ -2,11 +2,10 @@
 --     filled-none, filled-more   the invariant where the loop begins, and after a turn
 --     filled-all                 at the end the list is the one that f counts out
 -- Assumes nothing.
-use mathlib.Core.Path.{_≡_, refl, sym, ap, _∙_, subst}
-use mathlib.Core.Logic.{⊎-elim}
+use mathlib.Core.Path.{_≡_, refl, sym, ap, _∙_}
 use mathlib.Core.List.{List, [], _∷_}
 use Prim.Native.Nat.{ℕ, zero, suc, _+_, _<_, _≤_, suc-le-suc, zero-le}
-use native.Mathlib.Nat.{not-suc-le-zero, add-zero, add-suc, suc-add, suc-inj, zero-add}
+use native.Mathlib.Nat.{add-zero, add-suc, suc-add, suc-inj, zero-add}
 use native.Mathlib.Omega.{arith}
 use lib.ListN.{length, getD, set, take, drop, length-set, length-take, length-drop}
 use lib.Seq.{getD-set-same, getD-set-other, getD-take, getD-drop}

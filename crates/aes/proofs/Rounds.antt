@@ -1,8 +1,8 @@
 -- One round more: what a turn of `encrypt_with`'s loop does to the state.
 -- Assumes nothing.
-use mathlib.Core.Path.{_≡_, refl}
+use mathlib.Core.Path.{_≡_}
 use mathlib.Core.List.{List}
-use Prim.Native.Nat.{ℕ, suc, _+_}
+use Prim.Native.Nat.{ℕ, _+_}
 use native.Mathlib.Numerals.{add-one}
 use Rattle.meaning.specs.Cipher.{subBytes, shiftRows, mixColumns, addRoundKey, roundKey, rounds, cipherWith}
 

@@ -47,9 +47,9 @@ table =
     ∷ record { given = levelOf (0x0e ∷ []) ∷ modeOf (0x0e ∷ []) ∷ []; wanted = 6 ∷ 1 ∷ [] }
     -- security headers of modes 0 to 3 have 5, 6, 10, 14 octets
     ∷ record {
-        given = auxM 1 (0x06 ∷ []) ∷ auxM 1 (0x0e ∷ []) ∷ auxM 1 (0x16 ∷ []) ∷ auxM 1 (0x1e ∷ []) ∷ [];
-        wanted = 5 ∷ 6 ∷ 10 ∷ 14 ∷ [];
-      }
+      given = auxM 1 (0x06 ∷ []) ∷ auxM 1 (0x0e ∷ []) ∷ auxM 1 (0x16 ∷ []) ∷ auxM 1 (0x1e ∷ []) ∷ [];
+      wanted = 5 ∷ 6 ∷ 10 ∷ 14 ∷ [];
+    }
     -- control 61 88 is data, compressed, short to short, version 0, header 9 octets; 69 98 adds security and version 1
     ∷ record { given = shown (0x61 ∷ 0x88 ∷ []); wanted = 1 ∷ 0 ∷ 1 ∷ 2 ∷ 0 ∷ 2 ∷ 9 ∷ [] }
     ∷ record { given = shown (0x69 ∷ 0x98 ∷ []); wanted = 1 ∷ 1 ∷ 1 ∷ 2 ∷ 1 ∷ 2 ∷ 9 ∷ [] }

@@ -7,24 +7,28 @@ ghost use lib.Dec.{eqb};
 ghost use Rattle.meaning.specs.Site.{panId, shortAddress, extendedAddress, isCoordinator};
 ghost use Rattle.meaning.specs.Filter.{strangePan, strangeShort, strangeExtended, strangeBeacon, strangeSource, cause};
 
+// macPANId.
 pub fn pan_id(settings: &[u8]) -> u16
     ensures { λ r. ⌜ r ≡ panId (now (settings .entry)) ⌝ }
 {
     octets::number16(settings, 0)
 }
 
+// macShortAddress.
 pub fn short_address(settings: &[u8]) -> u16
     ensures { λ r. ⌜ r ≡ shortAddress (now (settings .entry)) ⌝ }
 {
     octets::number16(settings, 2)
 }
 
+// Our extended address.
 pub fn extended_address(settings: &[u8]) -> u64
     ensures { λ r. ⌜ r ≡ extendedAddress (now (settings .entry)) ⌝ }
 {
     octets::number64(settings, 4)
 }
 
+// We are PAN coordinator.
 pub fn is_coordinator(settings: &[u8]) -> bool
     ensures { λ r. ⌜ r ≡ isCoordinator (now (settings .entry)) ⌝ }
 {

@@ -10,32 +10,14 @@ use native.Mathlib.Decide.{decLe}
 use native.Mathlib.Omega.{arith}
 use mathlib.Core.Bool.{Bool, true, false}
 use mathlib.Core.List.{List, [], _∷_, _++_}
-use lib.ListN.{length, getD, take, drop, replicate, length-take, length-drop, length-append, length-replicate, List·getD-append}
+use lib.ListN.{length, getD, drop, replicate, length-take, length-drop, length-append, length-replicate, List·getD-append}
 use lib.Seq.{take-append-le, drop-append-le, getD-append-add}
 use lib.Dec.{eqb}
 use lib.Bits.{bitXor, xor-zero-r}
 use borrow.Author.Tests.{ne-eqb}
-use Rattle.meaning.specs.Octets.{pick, same}
+use Rattle.meaning.specs.Octets.{pick}
 use Rattle.meaning.specs.Frame.{tagLen, enciphers}
-use Rattle.meaning.specs.Ccm.{
-  xorBy,
-  size16,
-  padded,
-  flagsOf,
-  firstBlock,
-  counterBlock,
-  Sealed,
-  Opened,
-  chain,
-  macOf,
-  tagOf,
-  stream,
-  crypt,
-  sealedBy,
-  sealed,
-  unsealedBy,
-  unsealed,
-}
+use Rattle.meaning.specs.Ccm.{xorBy, padded, flagsOf, counterBlock, chain, macOf, tagOf, stream, crypt, sealedBy, sealed, unsealedBy, unsealed}
 use Rattle.meaning.proofs.Lists.{same-self}
 use Rattle.meaning.proofs.Xor.{xor-cancel}
 

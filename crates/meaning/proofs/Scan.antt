@@ -92,3 +92,30 @@ every-at p n h k l =
 pub none-at : (p : ℕ → Bool) (n : ℕ) → some p n ≡ false → (k : ℕ) → k < n → p k ≡ false
 none-at p n h k l =
     none-from p true false (λ e. let y : _≡_ {A = ℕ} 0 1 = cc in omega arith) n 0 h k (omega arith) (omega arith)
+
+-- ---- `every` and `some` as a loop tests them; u is a callee's result at place i
+-- each place below i passes
+pub record Kept (p : ℕ → Bool) (n i : ℕ) : Type 0 where
+  pub passed : Passed (λ k. not (p k)) (λ k. false) true n i
+
+pub kept-none : {p : ℕ → Bool} {n : ℕ} → Kept p n 0
+kept-none = record { passed = passed-none }
+
+module _ (p : ℕ → Bool) (n i : ℕ) (u : Bool) (d : u ≡ p i) where
+  pub every-fails : Kept p n i → i < n → not u ≡ true → false ≡ every p n
+  every-fails w h e = is-hit (λ k. not (p k)) (λ k. false) true n i (w .passed) h (ap not (sym d) ∙ e)
+
+  pub every-more : Kept p n i → i < n → not u ≡ false → Kept p n (i + 1)
+  every-more w h e = record { passed = passed-more (w .passed) h (ap not (sym d) ∙ e) }
+
+  pub some-holds : Passed p (λ k. true) false n i → i < n → u ≡ true → true ≡ some p n
+  some-holds w h e = is-hit p (λ k. true) false n i w h (sym d ∙ e)
+
+  pub some-more : Passed p (λ k. true) false n i → i < n → u ≡ false → Passed p (λ k. true) false n (i + 1)
+  some-more w h e = passed-more w h (sym d ∙ e)
+
+pub every-end : (p : ℕ → Bool) (n i : ℕ) → Kept p n i → n ≤ i → true ≡ every p n
+every-end p n i w h = is-none (λ k. not (p k)) (λ k. false) true n i (w .passed) h
+
+pub some-end : (p : ℕ → Bool) (n i : ℕ) → Passed p (λ k. true) false n i → n ≤ i → false ≡ some p n
+some-end p n i w h = is-none p (λ k. true) false n i w h

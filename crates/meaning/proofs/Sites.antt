@@ -61,8 +61,55 @@ module _ (s : List ℕ) where
   start-grows j zero = let e : j + 0 ≡ j = omega arith in rw e (omega arith)
   start-grows j (suc d) = let e : j + suc d ≡ suc (j + d) = omega arith in rw e (omega (arith, start-grows j d))
 
+module _ (s : List ℕ) (right : contentsRight s ≡ true) where
+  contents-long : 42 ≤ length s
+  unfolding contentsRight
+  contents-long = leb-true 42 (length s) (and-both _ _ right .0)
+
+  contents-entries : (every (entryRight s) 7 && eqb (length s) (startOf s 7)) ≡ true
+  unfolding contentsRight
+  contents-entries = and-both (leb 42 (length s)) _ right .1
+
+  contents-end : length s ≡ startOf s 7
+  contents-end = eqb-true (length s) (startOf s 7) (and-both (every (entryRight s) 7) _ contents-entries .1)
+
+  -- an entry's tests of count and offset
+  contents-entry : (k : ℕ) → k < 7
+      → (leb (leastOf k) (countOf s k) && (leb (countOf s k) (limitOf k) && eqb (placeOf s k) (startOf s k))) ≡ true
+  unfolding entryRight
+  contents-entry k h =
+      and-both (eqb (getD s (6 * k + 1) 0) (widthOf k)) _
+      (and-both (eqb (getD s (6 * k) 0) (k + 1)) _ (every-at (entryRight s) 7 (and-both _ _ contents-entries .0) k h) .1) .1
+
+  contents-least : (k : ℕ) → k < 7 → leastOf k ≤ countOf s k
+  contents-least k h = leb-true (leastOf k) (countOf s k) (and-both _ _ (contents-entry k h) .0)
+
+  contents-last : (k : ℕ) → k < 7 → (leb (countOf s k) (limitOf k) && eqb (placeOf s k) (startOf s k)) ≡ true
+  contents-last k h = and-both (leb (leastOf k) (countOf s k)) _ (contents-entry k h) .1
+
+  pub contents-limit : (k : ℕ) → k < 7 → countOf s k ≤ limitOf k
+  contents-limit k h = leb-true (countOf s k) (limitOf k) (and-both _ _ (contents-last k h) .0)
+
+  contents-place : (k : ℕ) → k < 7 → placeOf s k ≡ startOf s k
+  contents-place k h = eqb-true (placeOf s k) (startOf s k) (and-both (leb (countOf s k) (limitOf k)) _ (contents-last k h) .1)
+
+  pub contents-inside : (k : ℕ) → k < 7 → placeOf s k + widthOf k * countOf s k ≤ length s
+  unfolding startOf
+  contents-inside k h =
+      let e : suc k + (7 - suc k) ≡ 7 = omega arith in
+      omega (arith, contents-place k h, contents-end, rw e at (start-grows s (suc k) (7 - suc k)))
+
+  pub contents-one : countOf s 0 ≡ 1
+  unfolding limitOf leastOf
+  contents-one = omega (arith, contents-limit 0 (omega arith), contents-least 0 (omega arith))
+
+-- the length of a body that lies inside
+pub length-part : (s : List ℕ) (k : ℕ) → placeOf s k + widthOf k * countOf s k ≤ length s → length (body s k) ≡ widthOf k * countOf s k
+unfolding body
+length-part s k h = length-take-le (widthOf k * countOf s k) (drop (placeOf s k) s) (omega (arith, length-drop (placeOf s k) s))
+
 module _ (s : List ℕ) (rule : siteRule s ≡ true) where
-  rule-contents : contentsRight s ≡ true
+  pub rule-contents : contentsRight s ≡ true
   unfolding siteRule
   rule-contents = and-both _ _ rule .0
 
@@ -71,35 +118,13 @@ module _ (s : List ℕ) (rule : siteRule s ≡ true) where
   rule-records = and-both (contentsRight s) (recordsRight s) rule .1
 
   pub rule-long : 42 ≤ length s
-  unfolding contentsRight
-  rule-long = leb-true 42 (length s) (and-both _ _ rule-contents .0)
-
-  rule-entries : (every (entryRight s) 7 && eqb (length s) (startOf s 7)) ≡ true
-  unfolding contentsRight
-  rule-entries = and-both (leb 42 (length s)) _ rule-contents .1
-
-  rule-entry : (k : ℕ) → k < 7 → entryRight s k ≡ true
-  rule-entry k h = every-at (entryRight s) 7 (and-both _ _ rule-entries .0) k h
-
-  rule-end : length s ≡ startOf s 7
-  rule-end = eqb-true (length s) (startOf s 7) (and-both (every (entryRight s) 7) _ rule-entries .1)
-
-  -- an entry's tests
-  rule-count : (k : ℕ) → k < 7 → (leb (leastOf k) (countOf s k) && (leb (countOf s k) (limitOf k) && eqb (placeOf s k) (startOf s k))) ≡ true
-  unfolding entryRight
-  rule-count k h = and-both (eqb (getD s (6 * k + 1) 0) (widthOf k)) _ (and-both (eqb (getD s (6 * k) 0) (k + 1)) _ (rule-entry k h) .1) .1
-
-  rule-least : (k : ℕ) → k < 7 → leastOf k ≤ countOf s k
-  rule-least k h = leb-true (leastOf k) (countOf s k) (and-both _ _ (rule-count k h) .0)
-
-  rule-last : (k : ℕ) → k < 7 → (leb (countOf s k) (limitOf k) && eqb (placeOf s k) (startOf s k)) ≡ true
-  rule-last k h = and-both (leb (leastOf k) (countOf s k)) _ (rule-count k h) .1
+  rule-long = contents-long s rule-contents
 
   pub rule-limit : (k : ℕ) → k < 7 → countOf s k ≤ limitOf k
-  rule-limit k h = leb-true (countOf s k) (limitOf k) (and-both _ _ (rule-last k h) .0)
+  rule-limit = contents-limit s rule-contents
 
   pub rule-place : (k : ℕ) → k < 7 → placeOf s k ≡ startOf s k
-  rule-place k h = eqb-true (placeOf s k) (startOf s k) (and-both (leb (countOf s k) (limitOf k)) _ (rule-last k h) .1)
+  rule-place = contents-place s rule-contents
 
   -- body j ends before body k begins
   pub rule-apart : (j k : ℕ) → j < k → k < 7 → placeOf s j + widthOf j * countOf s j ≤ placeOf s k
@@ -109,10 +134,7 @@ module _ (s : List ℕ) (rule : siteRule s ≡ true) where
       omega (arith, rule-place j (omega arith), rule-place k l, rw e at (start-grows s (suc j) (k - suc j)))
 
   pub rule-inside : (k : ℕ) → k < 7 → placeOf s k + widthOf k * countOf s k ≤ length s
-  unfolding startOf
-  rule-inside k h =
-      let e : suc k + (7 - suc k) ≡ 7 = omega arith in
-      omega (arith, rule-place k h, rule-end, rw e at (start-grows s (suc k) (7 - suc k)))
+  rule-inside = contents-inside s rule-contents
 
   -- every body lies past the table of contents
   pub rule-past : (k : ℕ) → k < 7 → 42 ≤ placeOf s k
@@ -120,14 +142,11 @@ module _ (s : List ℕ) (rule : siteRule s ≡ true) where
   rule-past k h = let e : 0 + k ≡ k = omega arith in omega (arith, rule-place k h, rw e at (start-grows s 0 k))
 
   pub length-body : (k : ℕ) → k < 7 → length (body s k) ≡ widthOf k * countOf s k
-  unfolding body
-  length-body k h =
-      length-take-le (widthOf k * countOf s k) (drop (placeOf s k) s) (omega (arith, rule-inside k h, length-drop (placeOf s k) s))
+  length-body k h = length-part s k (rule-inside k h)
 
   -- there is just one settings record, and it comes first
   pub rule-one : countOf s 0 ≡ 1
-  unfolding limitOf leastOf
-  rule-one = omega (arith, rule-limit 0 (omega arith), rule-least 0 (omega arith))
+  rule-one = contents-one s rule-contents
 
   pub rule-first : placeOf s 0 ≡ 42
   unfolding startOf
@@ -142,6 +161,14 @@ module _ (s : List ℕ) (rule : siteRule s ≡ true) where
   unfolding widthOf
   rule-smallest = omega (arith, rule-inside 0 (omega arith), rule-first, rule-one)
 
+  pub few-devices : countOf s 1 ≤ 64
+  unfolding limitOf
+  few-devices = rule-limit 1 (omega arith)
+
+  pub few-keys : countOf s 3 ≤ 16
+  unfolding limitOf
+  few-keys = rule-limit 3 (omega arith)
+
   pub length-settings : length (settingsOf s) ≡ 31
   length-settings = ap length rule-settings ∙ length-take-le 31 (drop 42 s) (omega (arith, rule-smallest, length-drop 42 s))
 
@@ -150,7 +177,7 @@ module _ (s : List ℕ) (rule : siteRule s ≡ true) where
   rule-largest =
       omega (
         arith,
-        rule-end,
+        contents-end s rule-contents,
         rule-limit 0 (omega arith),
         rule-limit 1 (omega arith),
         rule-limit 2 (omega arith),

@@ -1,5 +1,5 @@
 -- `aes::encrypt` meets its contract: by the key's schedule, the cipher under the key. Assumes nothing.
-use mathlib.Core.Path.{_≡_, ap, _∙_}
+use mathlib.Core.Path.{ap, _∙_}
 use mathlib.Core.List.{List}
 use Prim.Native.Nat.{ℕ}
 use borrow.Author.Needs.{needs}

@@ -5,7 +5,8 @@ use Rattle.frame.proofs.division.pending_len.Statement.{statement}
 use Rattle.frame.proofs.division.pending_len.Tie as tie
 
 returns : tie.Need-returns
-returns c = rw (pending-len, ← c .before .before .octet .ensures, ← c .before .wide .ensures, ← c .wide2 .ensures)
+returns c =
+    rw (pending-len, ← c .before .before .octet .ensures, ← c .before .wide .ensures, ← c .wide2 .ensures)
 
 pub pending-len-spec : {M : Type 1} → statement M
 pending-len-spec =

@@ -5,7 +5,8 @@ use Rattle.frame.proofs.division.pending_sum.Statement.{statement}
 use Rattle.frame.proofs.division.pending_sum.Tie as tie
 
 returns : tie.Need-returns
-returns c = rw (pending-sum, ← c .before .before .octet .ensures, ← c .before .wide .ensures, ← c .wide2 .ensures)
+returns c =
+    rw (pending-sum, ← c .before .before .octet .ensures, ← c .before .wide .ensures, ← c .wide2 .ensures)
 
 pub pending-sum-spec : {M : Type 1} → statement M
 pending-sum-spec =

@@ -15,14 +15,29 @@ returns c = search (tests, compared)
 
 returns-2 : tie.Need-returns-2
 unfolding sourceLen
-returns-2 c = rw (← c .before .before .before .before .source-mode .ensures, ← c .address-len .ensures, ← c .before .before .compression-of .ensures, eq-eqb _ 1 (c .before .if2 .taken), zero-add) (search tests)
+returns-2 c =
+    rw (
+      ← c .before .before .before .before .source-mode .ensures,
+      ← c .address-len .ensures,
+      ← c .before .before .compression-of .ensures,
+      eq-eqb _ 1 (c .before .if2 .taken),
+      zero-add,
+    )
+    (search tests)
 
 add-result : tie.Need-add-result
 add-result c = omega (arith, address-bound (c .before .before .before .before .source-mode .result))
 
 returns-3 : tie.Need-returns-3
 unfolding sourceLen
-returns-3 c = rw (← c .before .before .before .before .source-mode .ensures, ← c .address-len2 .ensures, ← c .before .before .compression-of .ensures, ne-eqb _ 1 (c .before .if2 .left)) (search tests)
+returns-3 c =
+    rw (
+      ← c .before .before .before .before .source-mode .ensures,
+      ← c .address-len2 .ensures,
+      ← c .before .before .compression-of .ensures,
+      ne-eqb _ 1 (c .before .if2 .left),
+    )
+    (search tests)
 
 pub source-len-spec : {M : Type 1} → statement M
 source-len-spec =

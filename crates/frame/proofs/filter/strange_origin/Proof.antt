@@ -9,7 +9,13 @@ returns : tie.Need-returns
 returns c = search (joined, bools)
 
 returns-2 : tie.Need-returns-2
-returns-2 c = rw (← c .before .pan-id .ensures, ← c .before .before .before .is-coordinator .ensures, c .before .before .if2 .taken) (search (joined, bools))
+returns-2 c =
+    rw (
+      ← c .before .pan-id .ensures,
+      ← c .before .before .before .is-coordinator .ensures,
+      c .before .before .if2 .taken,
+    )
+    (search (joined, bools))
 
 returns-3 : tie.Need-returns-3
 returns-3 c = rw (← c .before .is-coordinator .ensures, c .if2 .left) (search (joined, bools))

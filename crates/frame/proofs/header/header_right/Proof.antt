@@ -17,11 +17,22 @@ returns-2 c = rw (← c .before .modes-right .ensures) (search (joined, le-leb, 
 
 returns-3 : tie.Need-returns-3
 unfolding headRight
-returns-3 c = rw (← c .before .before .before .modes-right .ensures, ← c .before .compression-right .ensures) (search (joined, le-leb, not-true, not-false))
+returns-3 c =
+    rw (
+      ← c .before .before .before .modes-right .ensures,
+      ← c .before .compression-right .ensures,
+    )
+    (search (joined, le-leb, not-true, not-false))
 
 returns-4 : tie.Need-returns-4
 unfolding headRight
-returns-4 c = rw (← c .before .before .before .before .modes-right .ensures, ← c .before .before .compression-right .ensures, ← c .shape-right .ensures) (search (joined, le-leb, not-true, not-false))
+returns-4 c =
+    rw (
+      ← c .before .before .before .before .modes-right .ensures,
+      ← c .before .before .compression-right .ensures,
+      ← c .shape-right .ensures,
+    )
+    (search (joined, le-leb, not-true, not-false))
 
 pub header-right-spec : {M : Type 1} → statement M
 header-right-spec =

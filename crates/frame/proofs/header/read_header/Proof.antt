@@ -6,7 +6,18 @@ use Rattle.frame.proofs.header.read_header.Tie as tie
 
 returns : tie.Need-returns
 unfolding headerOf
-returns c = rw (← c .octet .ensures, ← c .before .version-of .ensures, ← c .before .before .compression-of .ensures, ← c .before .before .before .request-of .ensures, ← c .before .before .before .before .pending-of .ensures, ← c .before .before .before .before .before .security-of .ensures, ← c .before .before .before .before .before .before .type-of .ensures, ← c .before .before .before .before .before .before .before .source-of .ensures, ← c .before .before .before .before .before .before .before .before .destination-of .ensures)
+returns c =
+    rw (
+      ← c .octet .ensures,
+      ← c .before .version-of .ensures,
+      ← c .before .before .compression-of .ensures,
+      ← c .before .before .before .request-of .ensures,
+      ← c .before .before .before .before .pending-of .ensures,
+      ← c .before .before .before .before .before .security-of .ensures,
+      ← c .before .before .before .before .before .before .type-of .ensures,
+      ← c .before .before .before .before .before .before .before .source-of .ensures,
+      ← c .before .before .before .before .before .before .before .before .destination-of .ensures,
+    )
 
 pub read-header-spec : {M : Type 1} → statement M
 read-header-spec =

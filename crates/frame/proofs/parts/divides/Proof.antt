@@ -1,6 +1,6 @@
 -- `divides` meets its contract: by the cuts and the header that were read.
 use borrow.Author.Needs.{needs}
-use mathlib.Core.Path.{_≡_, refl, sym, ap, _∙_}
+use mathlib.Core.Path.{_≡_, ap, _∙_}
 use native.Mathlib.Omega.{arith}
 use mathlib.Core.Bool.{Bool, false}
 use borrow.Author.Tests.{not-true, not-false}
@@ -17,20 +17,29 @@ known : (c : tie.After-read-header) (z : Bool)
     → z ≡ whole (c .before .before .before .before .args .body .now) (c .before .before .cuts .result) (c .read-header .result)
     → z ≡ divided (c .before .before .before .before .args .body .now)
 known c z =
-    divided-by (c .before .before .before .before .args .body .now) (c .before .before .cuts .result) (c .read-header .result) z (c .before .before .cuts .ensures)
-    (c .read-header .ensures ∙ ap headerOf (c .before .part-of .ensures))
+    divided-by (c .before .before .before .before .args .body .now) (c .before .before .cuts .result) (c .read-header .result)
+    z (c .before .before .cuts .ensures) (c .read-header .ensures ∙ ap headerOf (c .before .part-of .ensures))
 
 returns : tie.Need-returns
 returns c = known (c .before .before) false (search (joined-calls, not-true))
 
 returns-2 : tie.Need-returns-2
-returns-2 c = known (c .before .before .before .before .before) false (rw (← c .before .before .level-in .ensures) (search (joined-calls, not-true, not-false)))
+returns-2 c =
+    known (c .before .before .before .before .before) false
+    (rw (← c .before .before .level-in .ensures) (search (joined-calls, not-true, not-false)))
 
 add-part-of : tie.Need-add-part-of
-add-part-of c = omega (arith, bounded _ _ (c .before .before .before .before .before .before .before .before .cuts .ensures))
+add-part-of c =
+    omega (
+      arith,
+      bounded _ _ (c .before .before .before .before .before .before .before .before .cuts .ensures),
+    )
 
 returns-3 : tie.Need-returns-3
-returns-3 c = known (c .before .before .before .before .before .before .before .before) _ (rw (← c .before .before .before .before .before .level-in .ensures, ← c .before .part-of2 .ensures) (search (joined-calls, not-false)))
+returns-3 c =
+    known (c .before .before .before .before .before .before .before .before) _
+    (rw (← c .before .before .before .before .before .level-in .ensures, ← c .before .part-of2 .ensures)
+    (search (joined-calls, not-false)))
 
 pub divides-spec : {M : Type 1} → statement M
 divides-spec =

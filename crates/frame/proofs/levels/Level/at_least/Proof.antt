@@ -1,7 +1,7 @@
 -- `at_least` meets its contract: by the tests on the way.
 use Rattle.meaning.proofs.Tests.{bools}
 use Rattle.meaning.specs.Frame.{atLeast}
-use mathlib.Core.Path.{_≡_, refl, sym, ap, _∙_}
+use mathlib.Core.Path.{sym}
 use Rattle.frame.proofs.levels.Level.at_least.Statement.{statement}
 use Rattle.frame.proofs.levels.Level.at_least.Tie as tie
 

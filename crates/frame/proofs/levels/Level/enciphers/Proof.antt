@@ -1,6 +1,6 @@
 -- `enciphers` meets its contract: by definition.
 use Rattle.meaning.specs.Frame.{enciphers}
-use mathlib.Core.Path.{_≡_, refl, sym, ap, _∙_}
+use mathlib.Core.Path.{refl}
 use Rattle.frame.proofs.levels.Level.enciphers.Statement.{statement}
 use Rattle.frame.proofs.levels.Level.enciphers.Tie as tie
 

@@ -1,0 +1,4 @@
+pub mod Blocks
+pub mod Chains
+pub mod Streams
+pub mod Levels
