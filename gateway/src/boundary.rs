@@ -78,13 +78,7 @@ pub fn open_payload(frame: &[u8]) -> u32 {
     unsafe { archive::wirdhalef_open_payload(frame.as_ptr(), frame.len()) }
 }
 
-pub fn build(
-    site: &mut [u8],
-    request: &[u8],
-    opens: &[u8],
-    private: &[u8],
-    out: &mut [u8],
-) -> u32 {
+pub fn build(site: &mut [u8], request: &[u8], opens: &[u8], private: &[u8], out: &mut [u8]) -> u32 {
     unsafe {
         archive::wirdhalef_build(
             site.as_mut_ptr(),

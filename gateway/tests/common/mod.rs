@@ -189,7 +189,6 @@ impl Order {
                     least.site = least_spec(spec.clone(), &tells).encode();
                 }
             }
-            while least.input.private.pop().is_some() && least.fault().is_some() {}
             least.input.private = (0..=self.input.private.len())
                 .map(|len| self.input.private[..len].to_vec())
                 .find(|private| {
@@ -230,12 +229,24 @@ fn without_one(spec: &SiteSpec) -> Vec<SiteSpec> {
             all.push(less);
         }
     };
-    add(spec.handles.len(), &|less, number| drop(less.handles.remove(number)));
-    add(spec.usages.len(), &|less, number| drop(less.usages.remove(number)));
-    add(spec.lookups.len(), &|less, number| drop(less.lookups.remove(number)));
-    add(spec.levels.len(), &|less, number| drop(less.levels.remove(number)));
-    add(spec.devices.len(), &|less, number| drop(less.devices.remove(number)));
-    add(spec.keys.len(), &|less, number| drop(less.keys.remove(number)));
+    add(spec.handles.len(), &|less, number| {
+        less.handles.remove(number);
+    });
+    add(spec.usages.len(), &|less, number| {
+        less.usages.remove(number);
+    });
+    add(spec.lookups.len(), &|less, number| {
+        less.lookups.remove(number);
+    });
+    add(spec.levels.len(), &|less, number| {
+        less.levels.remove(number);
+    });
+    add(spec.devices.len(), &|less, number| {
+        less.devices.remove(number);
+    });
+    add(spec.keys.len(), &|less, number| {
+        less.keys.remove(number);
+    });
     all
 }
 
