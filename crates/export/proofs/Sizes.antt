@@ -1,18 +1,19 @@
 -- A built frame has at most 127 octets: `frameLen`, which status 16 tests, is its length. Assumes nothing.
 use mathlib.Core.Path.{_≡_, refl, sym, ap, _∙_}
-use mathlib.Core.Bool.{Bool, true, false}
+use mathlib.Core.Bool.{Bool, true, false, _||_}
 use mathlib.Core.List.{List, [], _∷_, _++_}
 use Prim.Native.Nat.{ℕ, _+_, _≤_}
 use native.Mathlib.Omega.{arith}
 use lib.ListN.{length, length-append}
-use lib.Dec.{leb, eqb}
+use lib.Dec.{leb, ltb, eqb}
 use borrow.Author.Tests.{leb-true}
 use Rattle.meaning.specs.Octets.{pick, octs}
 use Rattle.meaning.specs.Fcs.{sum, fcs}
 use Rattle.meaning.specs.Frame.{tagLen}
 use Rattle.meaning.specs.Cipher.{cipher}
 use Rattle.meaning.specs.Ccm.{nonceOf, sealed}
-use Rattle.meaning.specs.Site.{Store, siteRule, storeOf}
+use Rattle.meaning.specs.Site.{Store, siteRule, storeOf, securityOn}
+use Rattle.meaning.specs.Steps.{peerOf, keyRow}
 use Rattle.meaning.specs.Build.{
   Made,
   refuse,
@@ -21,7 +22,9 @@ use Rattle.meaning.specs.Build.{
   plainBody,
   sealing,
   securedBody,
+  requestRight,
   frameLen,
+  fitted,
   headerBy,
   headOctets,
   keyIdOctets,
@@ -39,7 +42,14 @@ use Rattle.meaning.specs.Build.{
 use Rattle.meaning.specs.declared.Found.{Found}
 use Rattle.meaning.specs.declared.Found.the-variants.{At, Nothing}
 use Rattle.meaning.specs.declared.Refusal.{Refusal}
-use Rattle.meaning.specs.declared.Refusal.the-variants.{Site}
+use Rattle.meaning.specs.declared.Refusal.the-variants.{
+  Site,
+  Room,
+  UnsupportedSecurity,
+  CounterError,
+  FrameTooLong,
+  InvalidParameter,
+}
 use Rattle.meaning.specs.declared.Request.{Request}
 use Rattle.meaning.specs.declared.Built.{Built}
 use Rattle.meaning.proofs.Numbers.{length-octs}
@@ -81,7 +91,9 @@ fit t q o p e = leb-true _ 127 e
 module _ (q : Request) (o p h : List ℕ) (g : Fit q o p (length h)) where
   plain-low : Low (frame (withFcs (plainBody h o p)) false)
   unfolding plainBody Fit
-  plain-low = sized _ false (omega (arith, g, with-fcs (h ++ (o ++ p)), length-append h (o ++ p), length-append o p))
+  plain-low =
+      sized (withFcs (plainBody h o p)) false
+      (omega (arith, g, with-fcs (h ++ (o ++ p)), length-append h (o ++ p), length-append o p))
 
   module _ (k : List ℕ) (e c : ℕ) where
     x : List ℕ
@@ -102,7 +114,9 @@ module _ (q : Request) (o p h : List ℕ) (g : Fit q o p (length h)) where
 
     secured-low : Low (frame (withFcs (securedBody k e c (q .level) h (auxOctets q c) o p)) true)
     unfolding body x Fit
-    secured-low = sized _ true (omega (arith, g, with-fcs body, length-body, aux-same q c 0))
+    secured-low =
+        sized (withFcs (securedBody k e c (q .level) h (auxOctets q c) o p)) true
+        (omega (arith, g, with-fcs body, length-body, aux-same q c 0))
 
 found-low : (σ : Store) (q : Request) (o p : List ℕ) → Fit q o p (length (headOctets (headerBy (σ .tables .settings) q))) → (r : Found)
     → Low (onLookup σ q o p r)
@@ -113,19 +127,30 @@ found-low σ q o p g (At i) = secured-low q o p _ g _ _ _
 made-low : (σ : Store) (q : Request) (o p : List ℕ) (room : ℕ) → Low (made σ q o p room)
 unfolding made onCounter
 made-low σ q o p room =
-    pick-all Low _ _ _ (λ _. refused _)
+    let t : List ℕ = σ .tables .settings in
+    let r : Found =
+    keyRow (σ .tables .lookups) t (q .keymode) (q .keyindex) (q .keysource) (peerOf t (fitted (q .destination))) in
+    let plain : Made = frame (withFcs (plainBody (headOctets (headerBy t q)) o p)) false in
+    let counter : Made = pick (eqb (σ .own) 0xffff_ffff) (refuse CounterError) (onLookup σ q o p r) in
+    let way : Made = pick (eqb (q .level) 0) plain counter in
+    let long : Made = pick (leb (frameLen t q o p) 127) way (refuse FrameTooLong) in
+    let secure : Made = pick (eqb (q .level) 0 || securityOn t) long (refuse UnsupportedSecurity) in
+    let right : Made = pick (requestRight t q o p) secure (refuse InvalidParameter) in
+    pick-all Low (ltb room 127) (refuse Room) right (λ _. refused Room)
     (λ _.
-      pick-all Low _ _ _
+      pick-all Low (requestRight t q o p) secure (refuse InvalidParameter)
       (λ _.
-        pick-all Low _ _ _
+        pick-all Low (eqb (q .level) 0 || securityOn t) long (refuse UnsupportedSecurity)
         (λ _.
-          pick-all Low _ _ _
+          pick-all Low (leb (frameLen t q o p) 127) way (refuse FrameTooLong)
           (λ e.
-            pick-all Low _ _ _ (λ _. plain-low q o p _ (fit (σ .tables .settings) q o p e))
-            (λ _. pick-all Low _ _ _ (λ _. refused _) (λ _. found-low σ q o p (fit (σ .tables .settings) q o p e) _)))
-          (λ _. refused _))
-        (λ _. refused _))
-      (λ _. refused _))
+            pick-all Low (eqb (q .level) 0) plain counter (λ _. plain-low q o p (headOctets (headerBy t q)) (fit t q o p e))
+            (λ _.
+              pick-all Low (eqb (σ .own) 0xffff_ffff) (refuse CounterError) (onLookup σ q o p r) (λ _. refused CounterError)
+              (λ _. found-low σ q o p (fit t q o p e) r)))
+          (λ _. refused FrameTooLong))
+        (λ _. refused UnsupportedSecurity))
+      (λ _. refused InvalidParameter))
 
 laid-low : (s out : List ℕ) (m : Made) → Low m → laid s out m .answer .len ≤ 127
 unfolding laid
@@ -135,7 +160,7 @@ laid-low s out _ (sized f u h) = h
 pub built-low : (s : List ℕ) (q : Request) (o p out : List ℕ) → built s q o p out .answer .len ≤ 127
 unfolding built builtValid
 built-low s q o p out =
-    pick-all (λ (w : Construction). w .answer .len ≤ 127) (siteRule s) _ _ (λ _. laid-low s out _ (made-low (storeOf s) q o p (length out)))
+    pick-all (λ (w : Construction). w .answer .len ≤ 127) (siteRule s) (builtValid s q o p out) (laid s out (refuse Site)) (λ _. laid-low s out _ (made-low (storeOf s) q o p (length out)))
     (λ _. laid-low s out _ (refused Site))
 
 -- of an answer that is known to be the meaning's
