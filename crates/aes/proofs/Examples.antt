@@ -19,7 +19,7 @@ use Rattle.meaning.specs.Cipher.{
   mixColumns,
   addRoundKey,
 }
-use Rattle.aes.proofs.Octet.{same}
+use Rattle.meaning.proofs.Computed.{agree}
 
 -- 4.2: {57} times {83} is {c1}
 pub product-57-83 : product 0x57 0x83 ≡ 0xc1
@@ -42,7 +42,7 @@ sbox-53 = refl
 -- `inverse` is the inverse: at each octet but 0 the product is 1
 pub inverse-right : (x : ℕ) → x < 255 → product (suc x) (inverse (suc x)) ≡ 1
 unfolding inverse square product productBits xtime
-inverse-right x h = same (λ x. product (suc x) (inverse (suc x))) (λ x. 1) 255 tt x h
+inverse-right x h = agree (λ x. product (suc x) (inverse (suc x))) (λ x. 1) 255 tt x h
 
 pub inverse-zero : inverse 0 ≡ 0
 unfolding inverse square product productBits xtime

@@ -10,7 +10,7 @@ use lib.Arith.{lt-one}
 use borrow.Author.Tests.{eq-eqb, ne-eqb}
 use Rattle.meaning.specs.Octets.{pick}
 use Rattle.meaning.specs.Field.{xtime, productBits, product}
-use Rattle.aes.proofs.Octet.{same}
+use Rattle.meaning.proofs.Computed.{agree}
 
 -- a multiplier of n bits has the same product at one bit more
 more : (n a b : ℕ) → b < 2 ^ n → productBits (suc n) a b ≡ productBits n a b
@@ -45,4 +45,4 @@ three a = ap (bitXor a) (xor-zero-r (xtime a))
 -- the same with the constant first, at octets: by a test of all 256
 pub two-first : (a : ℕ) → a < 256 → product 2 a ≡ xtime a
 unfolding product productBits xtime
-two-first a h = same (product 2) xtime 256 tt a h
+two-first a h = agree (product 2) xtime 256 tt a h

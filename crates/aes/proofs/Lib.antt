@@ -1,7 +1,4 @@
-pub mod Table
-pub mod Octet
 pub mod Field
-pub mod Fill
 pub mod Sixteen
 pub mod Rounds
 pub mod Expansion

@@ -2,46 +2,17 @@
 -- The rules hold the seven bodies apart, one after another, so four octets stored in one body change no other;
 -- and no rule reads a counter, so a site keeps its rules. Assumes nothing.
 use mathlib.Core.Path.{_≡_, refl, sym, ap, ap₂, _∙_}
-use Prim.Native.Nat.{ℕ, zero, suc, _+_, _*_, _-_, _≤_, _<_, _^_}
+use Prim.Native.Nat.{ℕ, zero, suc, _+_, _*_, _-_, _≤_, _<_}
 use native.Mathlib.Decide.{decLe, decLt}
 use native.Mathlib.Omega.{arith}
-use mathlib.Core.Bool.{Bool, true, false, _&&_, _||_, not}
-use mathlib.Core.List.{List, [], _∷_}
+use mathlib.Core.Bool.{Bool, true, false, _&&_, not}
+use mathlib.Core.List.{List}
 use lib.ListN.{length, getD, take, drop, set, length-drop, length-set}
-use lib.Seq.{sets, length-sets, length-take-le, take-take, take-all, getD-take, getD-set-same, getD-set-other, ext-getD}
-use lib.Dec.{leb, ltb, eqb}
-use borrow.Author.Tests.{leb-true, ltb-true, eqb-true, eqb-false, eq-eqb}
-use Rattle.meaning.specs.Octets.{leAt, octs, part, tab, every, some, first}
-use Rattle.meaning.specs.Site.{
-  widthOf,
-  limitOf,
-  leastOf,
-  countOf,
-  placeOf,
-  startOf,
-  entryRight,
-  contentsRight,
-  body,
-  settingsRight,
-  deviceRight,
-  levelRight,
-  lookupRight,
-  usageRight,
-  handleRight,
-  clash,
-  clashes,
-  distinct,
-  recordsRight,
-  siteRule,
-  deviceAt,
-  counterAt,
-  ownCounter,
-  settingsOf,
-  tablesOf,
-  storeOf,
-  Tables,
-  Store,
-}
+use lib.Seq.{sets, length-sets, length-take-le, take-take, getD-take, getD-set-same, getD-set-other}
+use lib.Dec.{leb, eqb}
+use borrow.Author.Tests.{leb-true, ltb-true, eqb-true, eq-eqb}
+use Rattle.meaning.specs.Octets.{leAt, octs, part, tab, every, first}
+use Rattle.meaning.specs.Site.{widthOf, limitOf, leastOf, countOf, placeOf, startOf, entryRight, contentsRight, body, settingsRight, deviceRight, levelRight, lookupRight, usageRight, handleRight, clash, clashes, distinct, recordsRight, siteRule, deviceAt, counterAt, ownCounter, settingsOf, tablesOf, storeOf, Store}
 use Rattle.meaning.specs.Steps.{noDevice}
 use Rattle.meaning.specs.Receive.{Raise, raise, raised, raisedIn}
 use Rattle.meaning.specs.Build.{ownRaised}

@@ -1,31 +1,17 @@
 -- What the tests, loops and stores of this crate come to, each over what the callees ensure. Assumes nothing.
-use mathlib.Core.Path.{_≡_, refl, sym, ap, _∙_}
+use mathlib.Core.Path.{_≡_, sym, ap, _∙_}
 use Prim.Native.Nat.{ℕ, suc, _+_, _*_, _-_, _≤_, _<_}
 use native.Mathlib.Nat.{mul-le-mul-left, mul-suc, add-sub-cancel-left}
 use native.Mathlib.Numerals.{add-one}
 use native.Mathlib.Omega.{arith}
-use mathlib.Core.Bool.{Bool, true, false, _&&_, not}
+use mathlib.Core.Bool.{Bool, true, false, not}
 use mathlib.Core.List.{List}
 use lib.ListN.{length, take, drop, length-drop}
 use lib.Seq.{sets, length-take-le}
 use lib.Dec.{eqb, leb, ltb}
 use borrow.Author.Tests.{eq-eqb, ne-eqb, lt-ltb, le-ltb, le-leb, lt-leb}
 use Rattle.meaning.specs.Octets.{leAt, octs, every}
-use Rattle.meaning.specs.Site.{
-  widthOf,
-  countOf,
-  placeOf,
-  startOf,
-  entryRight,
-  contentsRight,
-  body,
-  deviceAt,
-  clash,
-  distinct,
-  siteRule,
-  storeOf,
-  keyAt,
-}
+use Rattle.meaning.specs.Site.{widthOf, countOf, placeOf, startOf, entryRight, contentsRight, body, deviceAt, clash, distinct, siteRule, storeOf, keyAt}
 use Rattle.meaning.specs.Receive.{raise, raisedIn}
 use Rattle.meaning.specs.Build.{ownRaised}
 use Rattle.meaning.proofs.Tests.{not-on, not-off}

@@ -3,13 +3,13 @@ use borrow.Author.Needs.{needs}
 use Prim.Native.Nat.{_*_, _/_, _%_}
 use lib.Bits.{bitXor}
 use Rattle.meaning.specs.Field.{xtime}
-use Rattle.aes.proofs.Octet.{same}
+use Rattle.meaning.proofs.Computed.{agree}
 use Rattle.aes.proofs.double.Statement.{statement}
 use Rattle.aes.proofs.double.Tie as tie
 
 returns : tie.Need-returns
 unfolding xtime
-returns c = same (λ a. bitXor (a * 2 % 256) (a / 128 * 27)) xtime 256 tt (c .args .a) (c .fits .a .fits)
+returns c = agree (λ a. bitXor (a * 2 % 256) (a / 128 * 27)) xtime 256 tt (c .args .a) (c .fits .a .fits)
 
 pub double-spec : {M : Type 1} → statement M
 double-spec = tie.close (tie.spec

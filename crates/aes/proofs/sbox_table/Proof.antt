@@ -8,7 +8,7 @@ use lib.Dec.{T, eqb, eqb→eq}
 use lib.ListN.{getD, length}
 use Rattle.meaning.specs.Field.{xtime, product, productBits}
 use Rattle.meaning.specs.Sbox.{IsSbox, sbox, affineBits, affineBit, bit, inverse, square}
-use Rattle.aes.proofs.Table.{every, at}
+use Rattle.meaning.proofs.Computed.{every, at}
 use Rattle.aes.proofs.sbox_table.Statement.{statement}
 use Rattle.aes.proofs.sbox_table.Tie as tie
 
