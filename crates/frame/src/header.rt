@@ -7,80 +7,27 @@ use crate::control::security_of;
 use crate::control::source_mode;
 use crate::control::type_of;
 use crate::control::version_of;
-use crate::division::destination_len;
-use meaning::Address;
 use meaning::Cuts;
 use meaning::Header;
 ghost use mathlib.Core.Path.{_≡_};
-ghost use Prim.Native.Nat.{_^_, _<_};
-ghost use Rattle.meaning.specs.Octets.{leAt};
-ghost use Rattle.meaning.specs.Frame.{addressLen, addressAt, destinationOf, sourceOf, headerOf, modesRight, compressionRight, shapeRight, headRight};
+ghost use Rattle.meaning.specs.Frame.{headerOf, modesRight, compressionRight, shapeRight, headRight};
 
-// An address's octets as a number, by its mode.
-pub fn address_number(h: &[u8], mode: u8, at: usize) -> u64
-    requires { ⌜ at < 2 ^ 32 ⌝ }
-    ensures { λ r. ⌜ r ≡ leAt (addressLen mode) (now (h .entry)) at ⌝ }
-{
-    if mode == 2 {
-        return octets::number16(h, at) as u64;
-    }
-    if mode == 3 {
-        return octets::number64(h, at);
-    }
-    0
-}
-
-// The address of a mode, whose PAN and whose octets stand at the two places; all zero in mode 0.
-pub fn address_at(h: &[u8], mode: u8, pan: usize, at: usize) -> Address
-    requires { ⌜ (pan < 2 ^ 32) × (at < 2 ^ 32) ⌝ }
-    ensures { λ r. ⌜ r ≡ addressAt (now (h .entry)) mode pan at ⌝ }
-{
-    if mode == 0 {
-        return Address {
-            mode: 0,
-            pan: 0,
-            address: 0,
-        };
-    }
-    Address {
-        mode: mode,
-        pan: octets::number16(h, pan),
-        address: address_number(h, mode, at),
-    }
-}
-
-// The destination.
-pub fn destination_of(h: &[u8]) -> Address
-    ensures { λ r. ⌜ r ≡ destinationOf (now (h .entry)) ⌝ }
-{
-    address_at(h, destination_mode(h), 3, 5)
-}
-
-// The source; under compression its PAN is the destination's.
-pub fn source_of(h: &[u8]) -> Address
-    ensures { λ r. ⌜ r ≡ sourceOf (now (h .entry)) ⌝ }
-{
-    let n = destination_len(h);
-    if compression_of(h) == 1 {
-        return address_at(h, source_mode(h), 3, 3 + n);
-    }
-    address_at(h, source_mode(h), 3 + n, 5 + n)
-}
-
-// The fields of a header, 0 where absent.
+// The fields of a header, 0 where absent. Sequence number and addresses are read one after the other by a reader.
 pub fn read_header(head: &[u8]) -> Header
     ensures { λ r. ⌜ r ≡ headerOf (now (head .entry)) ⌝ }
 {
-    let destination = destination_of(head);
-    let source = source_of(head);
+    let compression = compression_of(head);
+    let fields = reader::read_fields(head, destination_mode(head), source_mode(head), compression);
+    let destination = fields.destination;
+    let source = fields.source;
     Header {
         kind: type_of(head),
         security: security_of(head),
         pending: pending_of(head),
         request: request_of(head),
-        compression: compression_of(head),
+        compression: compression,
         version: version_of(head),
-        sequence: octets::octet(head, 2),
+        sequence: fields.sequence,
         destination: destination,
         source: source,
     }

@@ -1,3 +1,4 @@
 pub mod Filled
 pub mod Mapped
 pub mod Halves
+pub mod Called
