@@ -1,9 +1,11 @@
 -- What a callee did, told as the boundary tells it. Assumes nothing.
-use mathlib.Core.Path.{_≡_, ap, _∙_}
+use mathlib.Core.Path.{_≡_, sym, ap, _∙_}
+use mathlib.Core.Bool.{Bool, true}
 use mathlib.Core.List.{List}
 use Prim.Native.Nat.{ℕ, _+_, _*_, _≤_}
 use lib.ListN.{length}
 use lib.Seq.{sets}
+use Rattle.meaning.specs.Site.{siteRule}
 use Rattle.meaning.specs.Receive.{Outcome, outcome, received}
 use Rattle.meaning.specs.Build.{construction, built}
 use Rattle.meaning.specs.declared.Received.{Received}
@@ -26,3 +28,7 @@ pub built-is : (b : Built) (s′ out′ s i o p out : List ℕ) (q : Request)
     → delivery (b .status + 256 * b .len) s′ out′ ≡ builtBy s i o p out
 unfolding builtBy delivered
 built-is b s′ out′ s i o p out q h e = ap delivered e ∙ ap (λ (x : Request). delivered (built s x o p out)) h
+
+-- the verdict u on a site
+pub holds-by : (s : List ℕ) (u : Bool) → u ≡ siteRule s → u ≡ true → siteRule s ≡ true
+holds-by s u d h = sym d ∙ h
