@@ -1,0 +1,4 @@
+pub mod Checks
+pub mod Bodies
+pub mod Commits
+pub mod Openings
