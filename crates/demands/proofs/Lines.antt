@@ -7,7 +7,7 @@ use lib.ListN.{replicate}
 use Rattle.meaning.specs.Octets.{leAt}
 use Rattle.meaning.specs.Receive.{received}
 use Rattle.meaning.specs.declared.Received.{Received}
-use Rattle.lines.specs.Log.{answers, printedWith, printedSized, printed}
+use Rattle.lines.specs.Log.{items, answers, printedWith, printedSized, printed}
 use Rattle.lines.proofs.Log.{printed-same}
 use Rattle.demands.specs.Secrecy.{Agree, Secret}
 use Rattle.demands.specs.Lines.{siteIn, restIn, AlikeInputs, SameLines}
@@ -26,9 +26,11 @@ module _ (i j : List ℕ) (a : AlikeInputs i j) where
   with-site : printedWith (leAt 2 i 0) i ≡ printedWith (leAt 2 j 0) j
   unfolding printedWith siteIn restIn Secret
   with-site =
+      let fs : List (List ℕ) = items (restIn i) .frames in
+      let gs : List (List ℕ) = items (restIn j) .frames in
       printed-same 1 (siteIn i) (siteIn j) (replicate 127 0) (replicate 127 0) (restIn i) (restIn j)
-      (agreed-answers 0 (siteIn i) (siteIn j) (replicate 127 0) (replicate 127 0) _ _
-      (secrecy (siteIn i) (siteIn j) (replicate 127 0) _ _ (a .sites) (a .frames)))
+      (agreed-answers 0 (siteIn i) (siteIn j) (replicate 127 0) (replicate 127 0) fs gs
+      (secrecy (siteIn i) (siteIn j) (replicate 127 0) fs gs (a .sites) (a .frames)))
       (a .cuts)
 
   sized : printedSized (leAt 2 i 0) i ≡ printedSized (leAt 2 j 0) j
