@@ -209,7 +209,7 @@ fn unlock(
     requires { ⌜ openEnd (cutsOf (now body)) + tagLen (levelOf (view (now body) .aux)) ≤ length (now body) ⌝ }
     requires { ⌜ length (now body) ≤ 125 ⌝ }
     requires { ⌜ 125 ≤ length (now scratch) ⌝ }
-    requires { ⌜ length (now body) ≤ length (now out) ⌝ }
+    requires { ⌜ 125 ≤ length (now out) ⌝ }
     ensures { λ r. ⌜ outcome r (now (site .exit)) (now (out .exit)) ≡ unlocked (now (site .entry)) (now (body .entry)) (now (out .entry)) key device counter ⌝ }
 {
     if unsecure(sbox, &site[..], body, key, device, scratch) {

@@ -1,5 +1,5 @@
 -- 14: a counter that is spent or low is refused; another goes on to the tag. Assumes nothing.
-use Rattle.receiver.proofs.Commits.{last-counter, low-counter, counter-below, plain-body, inner-short, inner-room, by-counted}
+use Rattle.receiver.proofs.Commits.{last-counter, low-counter, counter-below, plain-body, inner-short, room-long, by-counted}
 use borrow.Author.Needs.{needs}
 use Rattle.receiver.proofs.settle.Statement.{statement}
 use Rattle.receiver.proofs.settle.Tie as tie
@@ -59,7 +59,7 @@ unlock-requires c κs = (
         search needs,
         (
           search counter-below,
-          (search plain-body, (search inner-short, (search needs, search inner-room))),
+          (search plain-body, (search inner-short, (search needs, search room-long))),
         ),
       ),
     ),
