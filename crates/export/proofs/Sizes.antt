@@ -105,13 +105,12 @@ module _ (q : Request) (o p h : List ℕ) (g : Fit q o p (length h)) where
     length-body : length body ≡ length h + length x + length o + length p + tagLen (q .level)
     unfolding securedBody sealing body
     length-body =
-        omega (
-          arith,
-          five h x o (sealed (cipher k) (nonceOf e c (q .level)) (q .level) (h ++ (x ++ o)) p .cipher)
-              (sealed (cipher k) (nonceOf e c (q .level)) (q .level) (h ++ (x ++ o)) p .tag),
-          length-cipher-text (cipher k) (nonceOf e c (q .level)) (q .level) (h ++ (x ++ o)) p,
-          length-tag (cipher k) (length-cipher k) (nonceOf e c (q .level)) (q .level) (h ++ (x ++ o)) p,
-        )
+        omega
+        (arith,
+        five h x o (sealed (cipher k) (nonceOf e c (q .level)) (q .level) (h ++ (x ++ o)) p .cipher)
+        (sealed (cipher k) (nonceOf e c (q .level)) (q .level) (h ++ (x ++ o)) p .tag),
+        length-cipher-text (cipher k) (nonceOf e c (q .level)) (q .level) (h ++ (x ++ o)) p,
+        length-tag (cipher k) (length-cipher k) (nonceOf e c (q .level)) (q .level) (h ++ (x ++ o)) p)
 
     secured-low : Low (frame (withFcs (securedBody k e c (q .level) h (auxOctets q c) o p)) true)
     unfolding body x Fit
@@ -139,19 +138,19 @@ made-low σ q o p room =
     let right : Made = pick (requestRight t q o p) secure (refuse InvalidParameter) in
     pick-all Low (ltb room 127) (refuse Room) right (λ _. refused Room)
     (λ _.
-    pick-all Low (requestRight t q o p) secure (refuse InvalidParameter)
-    (λ _.
-    pick-all Low (eqb (q .level) 0 || securityOn t) long (refuse UnsupportedSecurity)
-    (λ _.
-    pick-all Low (leb (frameLen t q o p) 127) way (refuse FrameTooLong)
-    (λ e.
-    pick-all Low (eqb (q .level) 0) plain counter (λ _. plain-low q o p (headOctets (headerBy t q)) (fit t q o p e))
-    (λ _.
-    pick-all Low (eqb (σ .own) 0xffff_ffff) (refuse CounterError) (onLookup σ q o p r) (λ _. refused CounterError)
-    (λ _. found-low σ q o p (fit t q o p e) r)))
-    (λ _. refused FrameTooLong))
-    (λ _. refused UnsupportedSecurity))
-    (λ _. refused InvalidParameter))
+      pick-all Low (requestRight t q o p) secure (refuse InvalidParameter)
+      (λ _.
+        pick-all Low (eqb (q .level) 0 || securityOn t) long (refuse UnsupportedSecurity)
+        (λ _.
+          pick-all Low (leb (frameLen t q o p) 127) way (refuse FrameTooLong)
+          (λ e.
+            pick-all Low (eqb (q .level) 0) plain counter (λ _. plain-low q o p (headOctets (headerBy t q)) (fit t q o p e))
+            (λ _.
+              pick-all Low (eqb (σ .own) 0xffff_ffff) (refuse CounterError) (onLookup σ q o p r) (λ _. refused CounterError)
+              (λ _. found-low σ q o p (fit t q o p e) r)))
+          (λ _. refused FrameTooLong))
+        (λ _. refused UnsupportedSecurity))
+      (λ _. refused InvalidParameter))
 
 laid-low : (s out : List ℕ) (m : Made) → Low m → laid s out m .answer .len ≤ 127
 unfolding laid

@@ -87,9 +87,9 @@ module _ (s₀ o₀ f : List ℕ) (at n : ℕ) (s o : List ℕ) (r : Run s₀ o�
           few = omega (arith, r .few);
           rule = ap (λ (u : Outcome). siteRule (u .site)) w′ ∙ kept s (take x (drop (at + 1) f)) o (r .rule);
           same =
-              r .same
-              ∙ turn (length f) n x s o (drop at f) (drop (at + 1) f) (outcome a s′ o′) front (rw (length-drop (at + 1) f) h)
-              (rw (length-drop (at + 1) f) (omega arith)) w′
-              ∙ ap (λ (d : List ℕ). manyBy (length f) (counted n (a .status)) s′ o′ d) (drop-drop x (at + 1) f)
-              ∙ ap (λ (k : ℕ). manyBy (length f) k s′ o′ (drop (at + 1 + x) f)) (sym c);
+            r .same
+                ∙ turn (length f) n x s o (drop at f) (drop (at + 1) f) (outcome a s′ o′) front (rw (length-drop (at + 1) f) h)
+                (rw (length-drop (at + 1) f) (omega arith)) w′
+                ∙ ap (λ (d : List ℕ). manyBy (length f) (counted n (a .status)) s′ o′ d) (drop-drop x (at + 1) f)
+                ∙ ap (λ (k : ℕ). manyBy (length f) k s′ o′ (drop (at + 1 + x) f)) (sym c);
         }

@@ -24,12 +24,7 @@ pub extern "C" fn wirdhalef_site_holds(site: &[u8]) -> u8
 // The status of a received frame; its whole answer stands in the first 48 octets of `answer`, and `site` and `out` change as receiving
 // says. With an answer buffer of less than 48 octets the status is 2 and nothing changes.
 #[no_mangle]
-pub extern "C" fn wirdhalef_receive(
-    site: &mut [u8],
-    frame: &[u8],
-    out: &mut [u8],
-    answer: &mut [u8],
-) -> u8
+pub extern "C" fn wirdhalef_receive(site: &mut [u8], frame: &[u8], out: &mut [u8], answer: &mut [u8]) -> u8
     ensures { λ r.
         ⌜ exchange r (now (site .exit)) (now (out .exit)) (now (answer .exit)) ≡ receivedBy (now (site .entry)) (now (frame .entry)) (now (out .entry)) (now (answer .entry)) ⌝ }
 {
@@ -71,13 +66,7 @@ pub extern "C" fn wirdhalef_open_payload(frame: &[u8]) -> u32
 // The status of a build request and 256 times the length of its frame, which stands in front of `out`; the request stands in 28 octets,
 // those that are missing count as 0. `site` changes as building says; a refusal changes nothing.
 #[no_mangle]
-pub extern "C" fn wirdhalef_build(
-    site: &mut [u8],
-    request: &[u8],
-    opens: &[u8],
-    private: &[u8],
-    out: &mut [u8],
-) -> u32
+pub extern "C" fn wirdhalef_build(site: &mut [u8], request: &[u8], opens: &[u8], private: &[u8], out: &mut [u8]) -> u32
     ensures { λ r.
         ⌜ delivery r (now (site .exit)) (now (out .exit)) ≡ builtBy (now (site .entry)) (now (request .entry)) (now (opens .entry)) (now (private .entry)) (now (out .entry)) ⌝ }
 {

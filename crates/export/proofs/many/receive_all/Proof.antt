@@ -73,7 +73,7 @@ loop-again c =
     let s = c .before .before .before .before .before .receive-valid in
     let start = l .at + 1 in (
       run-more _ _ _ (l .at) _ _ _ (l .inv .0) (w .result) (t .taken) (w .ensures) (start + w .result - start) _ _ _ _ (v .left)
-          (add-sub-cancel-left start (w .result)) (s .ensures) (c .count .ensures),
+      (add-sub-cancel-left start (w .result)) (s .ensures) (c .count .ensures),
       omega (arith, l .inv .1),
       omega (arith, l .inv .2),
     )
