@@ -8,20 +8,27 @@
 //! - `Plan`: a frame as fields; `bare` and `seal` give its octets.
 //! - `FrameCase`, `frame`: random frames that fit a site, good and damaged.
 //! - `BuildInput`, `RequestBreakage`, `request`: random build requests.
+//! - `KnownFrame`, `KnownRequest`: published vectors as whole frames.
+//! - `Cases`: the input of the answers program and what it must write.
 //! - `log_input`: a random input of the log program.
 //! - `hex`: octets from their hexadecimal digits.
 
+mod answers;
 mod damage;
 mod frames;
 mod requests;
 mod rng;
 mod sites;
+mod vectors;
 
+pub use answers::Cases;
 pub use damage::{Allowance, Breakage};
 pub use frames::{frame, frame_of, log_input, open_payload, FrameCase, Plan};
 pub use requests::{request, request_of, BuildInput, RequestBreakage};
 pub use rng::Rng;
 pub use sites::{Device, Handle, Level, Lookup, Settings, SiteSpec, Usage};
+pub use vectors::{known_frames, known_requests, probe, probe_frame, probed};
+pub use vectors::{KnownFrame, KnownRequest};
 
 /// The octets written in hexadecimal; blanks and bars are skipped.
 pub fn hex(text: &str) -> Vec<u8> {

@@ -22,6 +22,7 @@ pub use header::shape_right;
 pub use levels::Level;
 pub use levels::at_least;
 pub use levels::tag_len;
+pub use parts::divides;
 pub use parts::open_payload;
 pub use parts::part_of;
 pub use security::counter_of;

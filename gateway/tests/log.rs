@@ -1,0 +1,108 @@
+//! The log program beside the second implementation. It is run where it was
+//! built, `target/bin/log` at the repository's root; WIRDHALEF_EMULATOR may
+//! name a command that runs it.
+
+use std::env;
+use std::io::Write;
+use std::path::PathBuf;
+use std::process::{Command, Stdio};
+
+use second::log;
+use second::testkit::{hex, log_input, Breakage, Rng, SiteSpec};
+
+fn program() -> PathBuf {
+    PathBuf::from(env!("CARGO_MANIFEST_DIR")).join("../target/bin/log")
+}
+
+/// What the program writes for an input.
+fn printed(input: &[u8]) -> Vec<u8> {
+    let emulator = env::var("WIRDHALEF_EMULATOR").unwrap_or_default();
+    let path = program();
+    let path = path.to_str().expect("a readable path");
+    let mut words = emulator.split_whitespace().chain([path]);
+    let mut child = Command::new(words.next().expect("a program"))
+        .args(words)
+        .stdin(Stdio::piped())
+        .stdout(Stdio::piped())
+        .spawn()
+        .expect("the log program starts");
+    let mut stdin = child.stdin.take().expect("a standard input");
+    let octets = input.to_vec();
+    // A program that ends early reads no more.
+    let writer = std::thread::spawn(move || stdin.write_all(&octets).is_ok());
+    let output = child.wait_with_output().expect("the log program ends");
+    writer.join().expect("the input is written");
+    output.stdout
+}
+
+fn check(input: &[u8]) {
+    let (ours, theirs) = (printed(input), log(input));
+    assert_eq!(String::from_utf8_lossy(&ours), String::from_utf8_lossy(&theirs), "{input:02x?}");
+}
+
+/// Nothing to compare where the program was not built.
+fn built() -> bool {
+    let built = program().exists();
+    if !built {
+        println!("no log program: not compared");
+    }
+    built
+}
+
+fn with_site(site: &[u8], frames: &[&[u8]]) -> Vec<u8> {
+    let mut input = (site.len() as u16).to_le_bytes().to_vec();
+    input.extend(site);
+    for frame in frames {
+        input.push(frame.len() as u8);
+        input.extend(*frame);
+    }
+    input
+}
+
+/// The listing of the requirements, cut anywhere.
+#[test]
+fn listing_cut_anywhere() {
+    if !built() {
+        return;
+    }
+    let (good, bad) = (hex("02 00 6A E4 79"), hex("02 00 6A E4 78"));
+    let input = with_site(&SiteSpec::default().encode(), &[&good, &bad, &[]]);
+    let listing = "frame status octets\n1 SUCCESS 0\n2 FCS 0\n3 LENGTH 0\n";
+    assert_eq!(String::from_utf8_lossy(&printed(&input)), listing);
+    for len in (0..=input.len()).filter(|len| *len < 4 || *len > 74) {
+        check(&input[..len]);
+    }
+}
+
+/// Sites that are too long, broken or of every size.
+#[test]
+fn sites() {
+    if !built() {
+        return;
+    }
+    let mut rng = Rng::new(501);
+    let good = hex("02 00 6A E4 79");
+    check(&with_site(&[0; 3614], &[&[1, 2, 3]]));
+    check(&with_site(&[0; 3613], &[&good, &[]]));
+    check(&with_site(&[], &[&good]));
+    check(&[0x1d, 0x0e]);
+    check(&[0xff, 0xff, 1]);
+    for breakage in Breakage::all().into_iter().step_by(4) {
+        let site = breakage.apply(&mut rng, &SiteSpec::default());
+        check(&with_site(&site, &[&good, &[]]));
+    }
+}
+
+/// Random logs, some of them cut, some long.
+#[test]
+fn random_logs() {
+    if !built() {
+        return;
+    }
+    let mut rng = Rng::new(502);
+    for round in 0..60 {
+        let spec = SiteSpec::random(&mut rng);
+        let frames = if round % 20 == 0 { 2000 } else { 30 };
+        check(&log_input(&mut rng, &spec, frames));
+    }
+}
