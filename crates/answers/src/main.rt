@@ -1,6 +1,6 @@
 // Answers a run of cases from standard input through the exported functions, for a comparison with the second implementation, whose
 // answers are the file `stdout`. second/src/testkit/answers.rs has the layout of the cases and makes both files.
-ghost use Prim.Native.Nat.{_+_, _≤_};
+ghost use Prim.Native.Nat.{_≤_, _<_};
 ghost use lib.ListN.{length};
 use libc::STDIN_FILENO;
 use libc::STDOUT_FILENO;
@@ -8,10 +8,10 @@ use libc::STDOUT_FILENO;
 // One case: its kind, the length of the output lent, and how many octets its three parts have.
 struct Item {
     kind: u8,
-    room: usize,
-    first: usize,
-    second: usize,
-    third: usize,
+    room: u16,
+    first: u16,
+    second: u16,
+    third: u16,
 }
 
 enum Next {
@@ -19,25 +19,24 @@ enum Next {
     End,
 }
 
-fn size(head: &[u8], at: usize) -> usize
-    requires { ⌜ at + 2 ≤ 9 ⌝ }
-    ensures { λ r. ⌜ r ≤ 65535 ⌝ }
+fn wide(x: u16) -> usize
+    ensures { λ r. ⌜ r < 65536 ⌝ }
 {
-    octets::number16(head, at) as usize
+    x as usize
 }
 
 // The next nine octets.
-fn next() -> Next {
+fn read_item() -> Next {
     let mut head = [0u8; 9];
     if io::read_full(STDIN_FILENO, &mut head) < 9 {
         return Next::End;
     }
     Next::Case(Item {
         kind: head[0],
-        room: size(&head, 1),
-        first: size(&head, 3),
-        second: size(&head, 5),
-        third: size(&head, 7),
+        room: octets::number16(&head, 1),
+        first: octets::number16(&head, 3),
+        second: octets::number16(&head, 5),
+        third: octets::number16(&head, 7),
     })
 }
 
@@ -74,22 +73,19 @@ fn tell_many(site: &mut [u8], frames: &[u8], out: &mut [u8]) {
     io::write_all(STDOUT_FILENO, out);
 }
 
-// Answers one case on a site, whose parts are read.
-fn answer(item: Item, site: &mut [u8], parts: &[u8], out: &mut [u8])
-    requires { ⌜ item .first + item .second + item .third ≤ length (now parts) ⌝ }
+// Answers one case on a site; its parts end at three places.
+fn answer(kind: u8, first: usize, second: usize, third: usize, site: &mut [u8], parts: &[u8], out: &mut [u8])
+    requires { ⌜ (first ≤ second) × (second ≤ third) × (third ≤ length (now parts)) ⌝ }
 {
-    let first = item.first;
-    let second = first + item.second;
-    let third = second + item.third;
-    if item.kind == 1 {
+    if kind == 1 {
         tell_received(site, &parts[..first], out);
         return;
     }
-    if item.kind == 2 {
+    if kind == 2 {
         tell_built(site, &parts[..first], &parts[first..second], &parts[second..third], out);
         return;
     }
-    if item.kind == 3 {
+    if kind == 3 {
         tell_many(site, &parts[..first], out);
         return;
     }
@@ -98,46 +94,54 @@ fn answer(item: Item, site: &mut [u8], parts: &[u8], out: &mut [u8])
 
 // Reads the parts of a case and answers it; gives the length of the site afterwards, or 4097 where the input ends or asks too much.
 fn turn(item: Item, site: &mut [u8], len: usize, parts: &mut [u8], out: &mut [u8]) -> usize
-    requires { ⌜ (len ≤ 4096) × (4096 ≤ length (now site)) ⌝ }
-    requires { ⌜ (4096 ≤ length (now parts)) × (512 ≤ length (now out)) ⌝ }
-    requires { ⌜ (item .first ≤ 65535) × ((item .second ≤ 65535) × (item .third ≤ 65535)) ⌝ }
+    requires { ⌜ (len ≤ 4096) × (4096 ≤ length (now site)) × (4096 ≤ length (now parts)) × (512 ≤ length (now out)) ⌝ }
     ensures { λ r. ⌜ r ≤ 4097 ⌝ }
 {
-    let room = item.room;
-    let count = item.first + item.second + item.third;
+    let kind = item.kind;
+    let room = wide(item.room);
+    let first = wide(item.first);
+    let second = first + wide(item.second);
+    let third = second + wide(item.third);
     if 512 < room {
         return 4097;
     }
-    if 4096 < count {
+    if 4096 < third {
         return 4097;
     }
-    if io::read_full(STDIN_FILENO, &mut parts[..count]) < count {
+    if io::read_full(STDIN_FILENO, &mut parts[..third]) < third {
         return 4097;
     }
-    if item.kind == 0 {
-        octets::copy_in(site, 0, &parts[..count]);
-        tell_site(&site[..count]);
-        return count;
+    if kind == 0 {
+        octets::copy_in(site, 0, &parts[..third]);
+        tell_site(&site[..third]);
+        return third;
     }
-    answer(item, &mut site[..len], parts, &mut out[..room]);
+    answer(kind, first, second, third, &mut site[..len], parts, &mut out[..room]);
     len
+}
+
+// Answers one case after the other.
+fn run(site: &mut [u8], parts: &mut [u8], out: &mut [u8])
+    requires { ⌜ (4096 ≤ length (now site)) × (4096 ≤ length (now parts)) × (512 ≤ length (now out)) ⌝ }
+{
+    let mut len: usize = 0;
+    let mut number: u32 = 0;
+    while number < 1000000 {
+        number += 1;
+        let Next::Case(item) = read_item() else {
+            return;
+        };
+        let then = turn(item, site, len, parts, out);
+        if 4096 < then {
+            return;
+        }
+        len = then;
+    }
 }
 
 fn main() {
     let mut site = [0u8; 4096];
     let mut parts = [0u8; 4096];
     let mut out = [0u8; 512];
-    let mut len: usize = 0;
-    let mut number: u32 = 0;
-    while number < 1000000 {
-        number += 1;
-        let Next::Case(item) = next() else {
-            return;
-        };
-        let then = turn(item, &mut site, len, &mut parts, &mut out);
-        if 4096 < then {
-            return;
-        }
-        len = then;
-    }
+    run(&mut site, &mut parts, &mut out);
 }
