@@ -6,8 +6,7 @@ use Prim.Native.Nat.{ℕ, zero, suc, _+_, _-_, _*_, _/_, _≤_, _<_}
 use native.Mathlib.Numerals.{add-one}
 use native.Mathlib.Omega.{arith}
 use lib.ListN.{length, getD}
-use lib.Dec.{eqb}
-use Rattle.meaning.specs.Octets.{pick, scan, first}
+use Rattle.meaning.specs.Octets.{pick, scan}
 use Rattle.meaning.specs.Site.{records}
 use Rattle.meaning.specs.Steps.{isPeer, noDevice, handleOf, handleRow}
 use Rattle.meaning.specs.declared.Device.{Device}

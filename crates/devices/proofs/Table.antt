@@ -1,15 +1,14 @@
 -- Laws of the records of a table: of the loop that decodes them, that there are 64, and that the first are the table's. Assumes nothing.
-use mathlib.Core.Path.{_≡_, refl, ap, sym, _∙_}
+use mathlib.Core.Path.{_≡_, refl, ap, _∙_}
 use mathlib.Core.Bool.{Bool, true, false}
 use mathlib.Core.List.{List}
-use Prim.Native.Nat.{ℕ, zero, suc, _+_, _*_, _/_, _≤_, _<_}
-use native.Mathlib.Numerals.{add-one}
+use Prim.Native.Nat.{ℕ, _+_, _/_, _≤_, _<_}
 use native.Mathlib.Omega.{arith}
 use lib.ListN.{length, getD, set, take, length-set}
 use lib.Seq.{getD-take, getD-set-same, getD-set-other, length-take-le}
 use lib.Dec.{ltb, eqb}
 use borrow.Author.Tests.{lt-ltb, le-ltb, ltb-true, ltb-false, eqb-true, eqb-false}
-use Rattle.meaning.specs.Octets.{pick, tab}
+use Rattle.meaning.specs.Octets.{tab}
 use Rattle.meaning.specs.Site.{records, deviceAt}
 use Rattle.meaning.specs.Steps.{noDevice}
 use Rattle.meaning.specs.declared.Device.{Device}

@@ -4,10 +4,10 @@
 -- triedOf      the trial after one that was tried
 -- answerOf     the answer where the search is over
 -- devicesOf    a table's records, with empty ones up to 64
-use Prim.Native.Nat.{ℕ, zero, suc, _+_, _-_, _*_, _/_}
+use Prim.Native.Nat.{ℕ, _+_, _-_, _*_}
 use mathlib.Core.Bool.{Bool, true, false}
 use mathlib.Core.List.{List}
-use lib.ListN.{length, getD, take}
+use lib.ListN.{getD, take}
 use lib.Dec.{ltb, eqb}
 use Rattle.meaning.specs.Octets.{pick, scan, tab}
 use Rattle.meaning.specs.Site.{records, deviceAt}

@@ -4,7 +4,7 @@
 --     calls-after    [what the reader owns; the tokens; Γ]  →  the same of the reader after the field
 -- Each lands the machine value written out, so that what follows has numbers and no unknown values.
 -- Assumes `Given`.
-use mathlib.Core.Path.{_≡_, refl, sym, ap, subst}
+use mathlib.Core.Path.{_≡_, refl}
 use Prim.Native.Nat.{ℕ, _<_, _^_}
 use mathlib.Core.List.{List, [], _∷_}
 use lib.ListN.{length}
@@ -18,17 +18,17 @@ use prog.Routine.{Routine}
 use prog.Wp.{Heap, Env, Calls, Loops}
 use ghost.Atoms.{Atoms, sem}
 use contract.Monad.{Fun, fact}
-use types.Kit.{Given, Item, ‵, raw, _⊛_, ⋆, some, later, Post, runs, lands, Seq, _$_, _∵_, !, qed, move, drop, use1, use2, split, join, pick, rewrite, fjoin, frame, await, done}
+use types.Kit.{Given, Item, ‵, raw, _⊛_, ⋆, Post, runs, lands, Seq, _$_, _∵_, !, qed, move, use1, use2, split, join, fjoin, frame, done}
 use types.Run.{Opds}
 use sound.WpLaws.{FmC}
 use denote.RattleType.{RattleType, owns}
-use denote.Laws.{Is, shows}
+use denote.Laws.{Is}
 use denote.Plain.{uint-makes}
 use denote.Builtin.{u8, usize}
 use denote.Ref.{RefT, NamedLft, now}
 use denote.Signature.{namedLft}
 use denote.Slice.{sliceVal, ShrSlice, shr-slice-copy}
-use denote.Steps.{only, owned, peeks, facts, heard, nothing}
+use denote.Steps.{owned, nothing}
 use denote.Struct.Laws as LL
 use denote.Triple.Statement.{Contract, Triple}
 use denote.Triple.Spec.{tripleOf}

@@ -251,8 +251,8 @@ by-counted s f o b k j d c u z h e g n q l m =
 pub counter-below : (c : ℕ) → (c ≡ 0xffff_ffff → ⊥) → c < 4294967296 → c < 4294967295
 counter-below c n h = omega arith
 
-pub inner-room : (f o b : List ℕ) → Fits (length o) f → b ≡ inner f → length b ≤ length o
-inner-room f o b fits e = omega (arith, inner-short f o b fits e, fits .room-is)
+pub room-long : (f o : List ℕ) → Fits (length o) f → 125 ≤ length o
+room-long f o fits = omega (arith, fits .room-is)
 
 -- ---- the whole
 pub on-refused : (s f o : List ℕ) (v : Judged) (x : Refusal) (r : Received) → v ≡ judged (tablesOf s) (length o) f → v ≡ Refused x → r ≡ refusal x

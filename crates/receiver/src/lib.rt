@@ -173,7 +173,7 @@ fn commit(
     site: &mut [u8],
     body: &[u8],
     out: &mut [u8],
-    scratch: &[u8; 127],
+    scratch: &[u8],
     device: usize,
     counter: u32,
 ) -> Received
@@ -185,7 +185,7 @@ fn commit(
     ensures { λ r. ⌜ outcome r (now (site .exit)) (now (out .exit)) ≡ committed (now (site .entry)) (now (body .entry)) (now (out .entry)) (now (scratch .entry)) device counter ⌝ }
 {
     let answer = accepted(body, device + 1);
-    octets::copy_in(out, 0, frame::part_of(&scratch[..], 0, answer.private));
+    octets::copy_in(out, 0, frame::part_of(scratch, 0, answer.private));
     site::raise_device(site, device, counter);
     answer
 }
@@ -196,6 +196,7 @@ fn unlock(
     site: &mut [u8],
     body: &[u8],
     out: &mut [u8],
+    scratch: &mut [u8],
     key: usize,
     device: usize,
     counter: u32,
@@ -207,12 +208,12 @@ fn unlock(
     requires { ⌜ counter < 4294967295 ⌝ }
     requires { ⌜ openEnd (cutsOf (now body)) + tagLen (levelOf (view (now body) .aux)) ≤ length (now body) ⌝ }
     requires { ⌜ length (now body) ≤ 125 ⌝ }
-    requires { ⌜ length (now body) ≤ length (now out) ⌝ }
+    requires { ⌜ 125 ≤ length (now scratch) ⌝ }
+    requires { ⌜ 125 ≤ length (now out) ⌝ }
     ensures { λ r. ⌜ outcome r (now (site .exit)) (now (out .exit)) ≡ unlocked (now (site .entry)) (now (body .entry)) (now (out .entry)) key device counter ⌝ }
 {
-    let mut scratch = [0u8; 127];
-    if unsecure(sbox, &site[..], body, key, device, &mut scratch) {
-        return commit(site, body, out, &scratch, device, counter);
+    if unsecure(sbox, &site[..], body, key, device, scratch) {
+        return commit(site, body, out, &scratch[..], device, counter);
     }
     refused(Refusal::SecurityError)
 }
@@ -242,7 +243,8 @@ fn settle(
     if counter < site::device_counter(&site[..], device) {
         return refused(Refusal::CounterError);
     }
-    unlock(sbox, site, body, out, key, device, counter)
+    let mut scratch = [0u8; 127];
+    unlock(sbox, site, body, out, &mut scratch, key, device, counter)
 }
 
 // Receives a frame on a site that holds its rules, with the two tables lent: the answer, and what the site and the output then hold.

@@ -1,5 +1,4 @@
 -- `decoded` meets its contract. The loop's invariant: the records passed are the table's, the rest are empty.
-use borrow.Author.Needs.{needs}
 use native.Mathlib.Omega.{arith}
 use Prim.Native.Nat.{_-_}
 use Rattle.devices.proofs.Table.{Decoding, none-yet, one-more, all-done}

@@ -2,7 +2,7 @@
 -- A `&[Device]` is Copy: what it owns is had twice, one copy is kept for the exit, and of the other the fractured borrow is looked into.
 -- The code has no check of the bound: it is the contract's to ask.
 -- Assumes nothing.
-use mathlib.Core.Path.{_≡_, refl, sym}
+use mathlib.Core.Path.{refl, sym}
 use Prim.Native.Nat.{ℕ, _<_, _^_, _*_}
 use native.Mathlib.Omega.{arith}
 use mathlib.Core.List.{List, [], _∷_}

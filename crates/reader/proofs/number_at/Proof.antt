@@ -1,6 +1,5 @@
 -- `number_at` meets its contract: by the number of octets.
 use borrow.Author.Needs.{needs}
-use native.Mathlib.Omega.{arith}
 use Rattle.meaning.proofs.Tests.{tests}
 use Rattle.octets.proofs.Halves.{read-one}
 use Rattle.reader.specs.Fields.{numberAt}

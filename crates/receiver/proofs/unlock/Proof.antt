@@ -1,3 +1,4 @@
+-- 15: by the tag's verdict, the committed frame or the refusal that leaves everything. Assumes nothing.
 use Rattle.receiver.proofs.Commits.{is-right, is-wrong}
 use borrow.Author.Needs.{needs}
 use Rattle.receiver.proofs.unlock.Statement.{statement}
@@ -8,53 +9,58 @@ use Rattle.receiver.proofs.commit.Reads as commit-reads
 use Rattle.receiver.proofs.refused.Reads as refused-reads
 use Rattle.receiver.proofs.unsecure.Reads as unsecure-reads
 
--- src/lib.rt:186:53
-slice-aggregate-unsecure : tie.Need-slice-aggregate-unsecure
-slice-aggregate-unsecure c = search needs
-
--- src/lib.rt:186:8
+-- src/lib.rt:215:8
 unsecure-requires : tie.Need-unsecure-requires
 unsecure-requires c κs = (search needs, (search needs, (search needs, (search needs, (search needs, (search needs, search needs))))))
 
--- src/lib.rt:187:9
+-- src/lib.rt:216:9
 commit-requires : tie.Need-commit-requires
 commit-requires c κs = (search needs, (search needs, (search needs, (search needs, search needs))))
 
--- src/lib.rt:187:9
+-- src/lib.rt:216:9
 same-length : tie.Need-same-length
 same-length c = search needs
 
--- src/lib.rt:187:9
+-- src/lib.rt:216:9
 same-length-2 : tie.Need-same-length-2
 same-length-2 c = search needs
 
--- src/lib.rt:187:9
-returns : tie.Need-returns
-returns c =
-    is-right _ _ _ _ _ _ _ _ _ (c .before .before .before .before .before .before .before .before .before .before .unsecure .ensures) _ (c .before .before .before .before .before .before .before .before .before .before .before .before .before .before .before .before .pre .1 .1 .1 .1 .1 .0) (c .before .before .before .before .before .before .before .before .if1 .taken) (c .before .before .before .before .commit .ensures)
-
--- src/lib.rt:189:5
-refused-requires : tie.Need-refused-requires
-refused-requires c κs = search needs
-
--- src/lib.rt:174:1
+-- src/lib.rt:216:9
 same-length-3 : tie.Need-same-length-3
 same-length-3 c = search needs
 
--- src/lib.rt:174:1
+-- src/lib.rt:216:9
+returns : tie.Need-returns
+returns c =
+    is-right _ _ _ _ _ _ _ _ _ (c .before .before .before .before .before .before .before .before .before .before .before .unsecure .ensures) _ (c .before .before .before .before .before .before .before .before .before .before .before .before .before .before .before .before .before .before .pre .1 .1 .1 .1 .1 .0) (c .before .before .before .before .before .before .before .before .if1 .taken) (c .before .before .before .before .commit .ensures)
+
+-- src/lib.rt:218:5
+refused-requires : tie.Need-refused-requires
+refused-requires c κs = search needs
+
+-- src/lib.rt:194:1
+same-length-4 : tie.Need-same-length-4
+same-length-4 c = search needs
+
+-- src/lib.rt:194:1
+same-length-5 : tie.Need-same-length-5
+same-length-5 c = search needs
+
+-- src/lib.rt:194:1
 returns-2 : tie.Need-returns-2
-returns-2 c = search is-wrong depth 9
+returns-2 c = is-wrong _ _ _ _ _ _ _ _ _ (c .before .before .before .before .unsecure .ensures) _ (c .before .if1 .left) (c .refused .ensures)
 
 pub unlock-spec : {M : Type 1} → statement M
 unlock-spec =
     tie.close
     (tie.spec
-    slice-aggregate-unsecure
     unsecure-requires
     commit-requires
     same-length
     same-length-2
+    same-length-3
     returns
     refused-requires
-    same-length-3
+    same-length-4
+    same-length-5
     returns-2)
