@@ -101,3 +101,10 @@ fn log_is_receiving() {
         assert_eq!(printed(&input), expected);
     }
 }
+
+#[test]
+fn the_sample_prints_its_lines() {
+    let folder = concat!(env!("CARGO_MANIFEST_DIR"), "/../samples/");
+    let input = std::fs::read(format!("{folder}day.bin")).unwrap();
+    assert_eq!(second::log(&input), std::fs::read(format!("{folder}day.txt")).unwrap());
+}

@@ -60,7 +60,11 @@ fn tell_received(site: &mut [u8], frame: &[u8], out: &mut [u8]) {
 // The answer to a request, and the output.
 fn tell_built(site: &mut [u8], request: &[u8], opens: &[u8], private: &[u8], out: &mut [u8]) {
     let mut number = [0u8; 4];
-    octets::put32(&mut number, 0, export::wirdhalef_build(site, request, opens, private, out));
+    octets::put32(
+        &mut number,
+        0,
+        export::wirdhalef_build(site, request, opens, private, out),
+    );
     io::write_all(STDOUT_FILENO, &number);
     io::write_all(STDOUT_FILENO, out);
 }
@@ -68,13 +72,25 @@ fn tell_built(site: &mut [u8], request: &[u8], opens: &[u8], private: &[u8], out
 // How many frames were accepted, and the output.
 fn tell_many(site: &mut [u8], frames: &[u8], out: &mut [u8]) {
     let mut number = [0u8; 8];
-    octets::put64(&mut number, 0, export::wirdhalef_receive_many(site, frames, out));
+    octets::put64(
+        &mut number,
+        0,
+        export::wirdhalef_receive_many(site, frames, out),
+    );
     io::write_all(STDOUT_FILENO, &number);
     io::write_all(STDOUT_FILENO, out);
 }
 
 // Answers one case on a site; its parts end at three places.
-fn answer(kind: u8, first: usize, second: usize, third: usize, site: &mut [u8], parts: &[u8], out: &mut [u8])
+fn answer(
+    kind: u8,
+    first: usize,
+    second: usize,
+    third: usize,
+    site: &mut [u8],
+    parts: &[u8],
+    out: &mut [u8],
+)
     requires { ⌜ (first ≤ second) × (second ≤ third) × (third ≤ length (now parts)) ⌝ }
 {
     if kind == 1 {
@@ -82,7 +98,13 @@ fn answer(kind: u8, first: usize, second: usize, third: usize, site: &mut [u8], 
         return;
     }
     if kind == 2 {
-        tell_built(site, &parts[..first], &parts[first..second], &parts[second..third], out);
+        tell_built(
+            site,
+            &parts[..first],
+            &parts[first..second],
+            &parts[second..third],
+            out,
+        );
         return;
     }
     if kind == 3 {
@@ -116,7 +138,15 @@ fn turn(item: Item, site: &mut [u8], len: usize, parts: &mut [u8], out: &mut [u8
         tell_site(&site[..third]);
         return third;
     }
-    answer(kind, first, second, third, &mut site[..len], parts, &mut out[..room]);
+    answer(
+        kind,
+        first,
+        second,
+        third,
+        &mut site[..len],
+        parts,
+        &mut out[..room],
+    );
     len
 }
 

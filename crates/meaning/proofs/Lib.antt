@@ -16,3 +16,4 @@ pub mod Ways
 pub mod Ccm
 pub mod Sites
 pub mod Kept
+pub mod Examples
