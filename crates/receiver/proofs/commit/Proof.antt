@@ -3,42 +3,28 @@ use Rattle.receiver.proofs.Commits.{device-fits, private-short, by-comm
 use borrow.Author.Needs.{needs}
 use Rattle.receiver.proofs.commit.Statement.{statement}
 use Rattle.receiver.proofs.commit.Tie as tie
-use Rattle.receiver.proofs.commit.Reads as reads
-use Rattle.receiver.proofs.commit.Lts as lts
-use Rattle.frame.proofs.part_of.Reads as part-of-reads
-use Rattle.octets.proofs.copy_in.Reads as copy-in-reads
-use Rattle.receiver.proofs.accepted.Reads as accepted-reads
-use Rattle.site.proofs.raise_device.Reads as raise-device-reads
 
--- src/lib.rt:187:33
 add-accepted : tie.Need-add-accepted
 add-accepted c = search device-fits
 
--- src/lib.rt:187:9
 accepted-requires : tie.Need-accepted-requires
 accepted-requires c κs = search needs
 
--- src/lib.rt:188:29
 part-of-requires : tie.Need-part-of-requires
 part-of-requires c κs = search needs
 
--- src/lib.rt:188:5
 copy-in-requires : tie.Need-copy-in-requires
 copy-in-requires c κs = search private-short depth 7
 
--- src/lib.rt:189:5
 raise-device-requires : tie.Need-raise-device-requires
 raise-device-requires c κs = search needs
 
--- src/lib.rt:172:1
 same-length : tie.Need-same-length
 same-length c = search needs
 
--- src/lib.rt:172:1
 same-length-2 : tie.Need-same-length-2
 same-length-2 c = search needs
 
--- src/lib.rt:172:1
 returns : tie.Need-returns
 returns c = search by-commit depth 12
 

@@ -1,74 +1,54 @@
+-- By the judgment: a refusal, a frame without security, or a secured one. Assumes nothing.
 use mathlib.Core.Path.{sym, _∙_}
 use Rattle.meaning.proofs.Ways.{plain-fits}
 use Rattle.receiver.proofs.Commits.{secured-in, on-refused, on-plain, on-secure}
 use borrow.Author.Needs.{needs}
 use Rattle.receiver.proofs.receive_valid.Statement.{statement}
 use Rattle.receiver.proofs.receive_valid.Tie as tie
-use Rattle.receiver.proofs.receive_valid.Reads as reads
-use Rattle.receiver.proofs.receive_valid.Lts as lts
-use Rattle.receiver.proofs.accept_plain.Reads as accept-plain-reads
-use Rattle.receiver.proofs.refused.Reads as refused-reads
-use Rattle.receiver.proofs.settle.Reads as settle-reads
-use Rattle.receiver.proofs.stages.judge.Reads as judge-reads
 
--- src/lib.rt:168:11
 judge-requires : tie.Need-judge-requires
 judge-requires c κs = search needs
 
--- src/lib.rt:169:25
 enum-known-r : tie.Need-enum-known-r
 enum-known-r c = search needs
 
--- src/lib.rt:169:31
 refused-requires : tie.Need-refused-requires
 refused-requires c κs = search needs
 
--- src/lib.rt:170:46
 enum-told : tie.Need-enum-told
 enum-told c = search needs
 
--- src/lib.rt:170:26
 accept-plain-requires : tie.Need-accept-plain-requires
 accept-plain-requires c κs = plain-fits _ _ _ (sym (c .before .before .before .judge .ensures) ∙ c .before .enum-told .given .1)
 
--- src/lib.rt:171:24
 enum-known-key : tie.Need-enum-known-key
 enum-known-key c = search needs
 
--- src/lib.rt:171:48
 settle-requires : tie.Need-settle-requires
 settle-requires c κs =
     (search needs, (search needs, secured-in _ _ _ _ _ _ (c .before .before .before .before .before .before .before .before .before .before .pre .1 .1) (sym (c .before .before .before .before .before .judge .ensures) ∙ c .before .before .before .key .given .1)))
 
--- src/lib.rt:161:1
 same-length : tie.Need-same-length
 same-length c = search needs
 
--- src/lib.rt:161:1
 returns : tie.Need-returns
 returns c = on-refused _ _ _ _ _ _ (c .before .before .before .before .judge .ensures) (c .before .before .r .given .1) (c .refused .ensures)
 
--- src/lib.rt:161:1
 same-length-2 : tie.Need-same-length-2
 same-length-2 c = search needs
 
--- src/lib.rt:161:1
 same-length-3 : tie.Need-same-length-3
 same-length-3 c = search needs
 
--- src/lib.rt:161:1
 returns-2 : tie.Need-returns-2
 returns-2 c = on-plain _ _ _ _ _ _ (c .before .before .before .before .before .before .judge .ensures) (c .before .before .before .before .enum-told .given .1) (c .before .before .accept-plain .ensures)
 
--- src/lib.rt:161:1
 same-length-4 : tie.Need-same-length-4
 same-length-4 c = search needs
 
--- src/lib.rt:161:1
 same-length-5 : tie.Need-same-length-5
 same-length-5 c = search needs
 
--- src/lib.rt:161:1
 returns-3 : tie.Need-returns-3
 returns-3 c = on-secure _ _ _ _ _ _ _ _ (c .before .before .before .before .before .before .before .before .before .before .judge .ensures) (c .before .before .before .before .before .before .before .before .key .given .1) (c .before .before .before .before .settle .ensures)
 

@@ -3,51 +3,34 @@ use Rattle.receiver.proofs.Commits.{last-counter, low-counter, counter-
 use borrow.Author.Needs.{needs}
 use Rattle.receiver.proofs.settle.Statement.{statement}
 use Rattle.receiver.proofs.settle.Tie as tie
-use Rattle.receiver.proofs.settle.Reads as reads
-use Rattle.receiver.proofs.settle.Lts as lts
-use Rattle.receiver.proofs.body_of.Reads as body-of-reads
-use Rattle.receiver.proofs.counter_in.Reads as counter-in-reads
-use Rattle.receiver.proofs.refused.Reads as refused-reads
-use Rattle.receiver.proofs.unlock.Reads as unlock-reads
-use Rattle.site.proofs.device_counter.Reads as device-counter-reads
 
--- src/lib.rt:238:9
 body-of-requires : tie.Need-body-of-requires
 body-of-requires c κs = search needs
 
--- src/lib.rt:239:9
 counter-in-requires : tie.Need-counter-in-requires
 counter-in-requires c κs = search needs
 
--- src/lib.rt:241:9
 refused-requires : tie.Need-refused-requires
 refused-requires c κs = search needs
 
--- src/lib.rt:241:9
 returns : tie.Need-returns
 returns c = search last-counter depth 9
 
--- src/lib.rt:243:18
 device-counter-requires : tie.Need-device-counter-requires
 device-counter-requires c κs = search needs
 
--- src/lib.rt:244:9
 refused-requires-2 : tie.Need-refused-requires-2
 refused-requires-2 c κs = search needs
 
--- src/lib.rt:244:9
 same-length : tie.Need-same-length
 same-length c = search needs
 
--- src/lib.rt:244:9
 returns-2 : tie.Need-returns-2
 returns-2 c = search low-counter depth 9
 
--- src/lib.rt:247:35
 slice-aggregate-unlock : tie.Need-slice-aggregate-unlock
 slice-aggregate-unlock c = search needs
 
--- src/lib.rt:247:5
 unlock-requires : tie.Need-unlock-requires
 unlock-requires c κs = (
   search needs,
@@ -66,15 +49,12 @@ unlock-requires c κs = (
   ),
 )
 
--- src/lib.rt:222:1
 same-length-2 : tie.Need-same-length-2
 same-length-2 c = search needs
 
--- src/lib.rt:222:1
 same-length-3 : tie.Need-same-length-3
 same-length-3 c = search needs
 
--- src/lib.rt:222:1
 returns-3 : tie.Need-returns-3
 returns-3 c =
     by-counted _ _ _ _ _ _ _ _ _ _ (c .before .before .before .before .before .before .before .before .before .before .before .before .before .before .before .before .before .before .pre .1 .1 .1 .0) (c .before .before .before .before .before .before .before .before .before .before .before .before .before .before .body-of .ensures) (c .before .before .before .before .before .before .before .before .before .before .before .before .before .counter-in .ensures) (c .before .before .before .before .before .before .before .before .before .before .before .before .if1 .left)

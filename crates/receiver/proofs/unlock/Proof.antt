@@ -3,50 +3,35 @@ use Rattle.receiver.proofs.Commits.{is-right, is-wrong}
 use borrow.Author.Needs.{needs}
 use Rattle.receiver.proofs.unlock.Statement.{statement}
 use Rattle.receiver.proofs.unlock.Tie as tie
-use Rattle.receiver.proofs.unlock.Reads as reads
-use Rattle.receiver.proofs.unlock.Lts as lts
-use Rattle.receiver.proofs.commit.Reads as commit-reads
-use Rattle.receiver.proofs.refused.Reads as refused-reads
-use Rattle.receiver.proofs.unsecure.Reads as unsecure-reads
 
--- src/lib.rt:215:8
 unsecure-requires : tie.Need-unsecure-requires
 unsecure-requires c κs = (search needs, (search needs, (search needs, (search needs, (search needs, (search needs, search needs))))))
 
--- src/lib.rt:216:9
 commit-requires : tie.Need-commit-requires
 commit-requires c κs = (search needs, (search needs, (search needs, (search needs, search needs))))
 
--- src/lib.rt:216:9
 same-length : tie.Need-same-length
 same-length c = search needs
 
--- src/lib.rt:216:9
 same-length-2 : tie.Need-same-length-2
 same-length-2 c = search needs
 
--- src/lib.rt:216:9
 same-length-3 : tie.Need-same-length-3
 same-length-3 c = search needs
 
--- src/lib.rt:216:9
 returns : tie.Need-returns
 returns c =
     is-right _ _ _ _ _ _ _ _ _ (c .before .before .before .before .before .before .before .before .before .before .before .unsecure .ensures) _ (c .before .before .before .before .before .before .before .before .before .before .before .before .before .before .before .before .before .before .pre .1 .1 .1 .1 .1 .0) (c .before .before .before .before .before .before .before .before .if1 .taken) (c .before .before .before .before .commit .ensures)
 
--- src/lib.rt:218:5
 refused-requires : tie.Need-refused-requires
 refused-requires c κs = search needs
 
--- src/lib.rt:194:1
 same-length-4 : tie.Need-same-length-4
 same-length-4 c = search needs
 
--- src/lib.rt:194:1
 same-length-5 : tie.Need-same-length-5
 same-length-5 c = search needs
 
--- src/lib.rt:194:1
 returns-2 : tie.Need-returns-2
 returns-2 c = is-wrong _ _ _ _ _ _ _ _ _ (c .before .before .before .before .unsecure .ensures) _ (c .before .if1 .left) (c .refused .ensures)
 

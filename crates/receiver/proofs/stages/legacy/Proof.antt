@@ -1,15 +1,12 @@
+-- Two tests joined. Assumes nothing.
 use borrow.Author.Tests.{eq-eqb, ne-eqb}
 use Rattle.meaning.proofs.Joined.{joined}
 use Rattle.receiver.proofs.stages.legacy.Statement.{statement}
 use Rattle.receiver.proofs.stages.legacy.Tie as tie
-use Rattle.receiver.proofs.stages.legacy.Reads as reads
-use Rattle.receiver.proofs.stages.legacy.Lts as lts
 
--- src/stages.rt:169:1
 returns : tie.Need-returns
 returns c = search (joined, eq-eqb)
 
--- src/stages.rt:169:1
 returns-2 : tie.Need-returns-2
 returns-2 c = search (joined, ne-eqb)
 

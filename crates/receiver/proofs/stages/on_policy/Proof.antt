@@ -1,57 +1,39 @@
+-- 10: by the policy's test, the level and the override, one law for each way. Assumes nothing.
 use borrow.Author.Needs.{needs}
 use Rattle.receiver.proofs.Checks.{row-in, level-lt, pass-plain, pass-key, fail-exempt, fail-bound, fail-secure}
 use Rattle.receiver.proofs.stages.on_policy.Statement.{statement}
 use Rattle.receiver.proofs.stages.on_policy.Tie as tie
-use Rattle.receiver.proofs.stages.on_policy.Reads as reads
-use Rattle.receiver.proofs.stages.on_policy.Lts as lts
-use Rattle.frame.proofs.level_of.Reads as level-of-reads
-use Rattle.receiver.proofs.stages.on_exempt.Reads as on-exempt-reads
-use Rattle.receiver.proofs.stages.on_key.Reads as on-key-reads
-use Rattle.search.proofs.overrides.Reads as overrides-reads
-use Rattle.search.proofs.passes.Reads as passes-reads
-use Rattle.site.proofs.table.Reads as table-reads
 
--- src/stages.rt:118:9
 table-requires : tie.Need-table-requires
 table-requires c κs = search needs
 
--- src/stages.rt:119:9
 level-of-requires : tie.Need-level-of-requires
 level-of-requires c κs = search needs
 
--- src/stages.rt:120:8
 passes-requires : tie.Need-passes-requires
 passes-requires c κs = (search row-in, search level-lt)
 
--- src/stages.rt:122:13
 returns : tie.Need-returns
 returns c = search pass-plain depth 9
 
--- src/stages.rt:124:9
 on-key-requires : tie.Need-on-key-requires
 on-key-requires c κs = search needs
 
--- src/stages.rt:124:9
 returns-2 : tie.Need-returns-2
 returns-2 c = search pass-key depth 9
 
--- src/stages.rt:127:12
 overrides-requires : tie.Need-overrides-requires
 overrides-requires c κs = search row-in
 
--- src/stages.rt:128:13
 on-exempt-requires : tie.Need-on-exempt-requires
 on-exempt-requires c κs = search needs
 
--- src/stages.rt:128:13
 returns-3 : tie.Need-returns-3
 returns-3 c = search fail-exempt depth 9
 
--- src/stages.rt:113:1
 returns-4 : tie.Need-returns-4
 returns-4 c = search fail-bound depth 9
 
--- src/stages.rt:113:1
 returns-5 : tie.Need-returns-5
 returns-5 c = search fail-secure depth 9
 

@@ -1,51 +1,36 @@
+-- 8: by level, security bit and the settings' flag, one law for each way. Assumes nothing.
 use borrow.Author.Needs.{needs}
 use Rattle.receiver.proofs.Checks.{level-none, open-on, open-off, sealed-on, sealed-off}
 use Rattle.receiver.proofs.stages.on_security.Statement.{statement}
 use Rattle.receiver.proofs.stages.on_security.Tie as tie
-use Rattle.receiver.proofs.stages.on_security.Reads as reads
-use Rattle.receiver.proofs.stages.on_security.Lts as lts
-use Rattle.frame.proofs.level_of.Reads as level-of-reads
-use Rattle.receiver.proofs.stages.on_level.Reads as on-level-reads
-use Rattle.receiver.proofs.stages.security_on.Reads as security-on-reads
-use Rattle.site.proofs.settings.Reads as settings-reads
 
--- src/stages.rt:151:9
 level-of-requires : tie.Need-level-of-requires
 level-of-requires c κs = search needs
 
--- src/stages.rt:152:26
 settings-requires : tie.Need-settings-requires
 settings-requires c κs = search needs
 
--- src/stages.rt:152:9
 security-on-requires : tie.Need-security-on-requires
 security-on-requires c κs = search needs
 
--- src/stages.rt:155:13
 returns : tie.Need-returns
 returns c = search level-none depth 9
 
--- src/stages.rt:158:13
 on-level-requires : tie.Need-on-level-requires
 on-level-requires c κs = search needs
 
--- src/stages.rt:158:13
 returns-2 : tie.Need-returns-2
 returns-2 c = search open-on depth 9
 
--- src/stages.rt:160:9
 returns-3 : tie.Need-returns-3
 returns-3 c = search open-off depth 9
 
--- src/stages.rt:163:9
 on-level-requires-2 : tie.Need-on-level-requires-2
 on-level-requires-2 c κs = search needs
 
--- src/stages.rt:163:9
 returns-4 : tie.Need-returns-4
 returns-4 c = search sealed-on depth 9
 
--- src/stages.rt:147:1
 returns-5 : tie.Need-returns-5
 returns-5 c = search sealed-off depth 9
 
