@@ -1,16 +1,16 @@
 -- What is printed, frame by frame; and that it depends on the answers alone.
 -- Assumes nothing.
 use mathlib.Core.Path.{_≡_, refl, ap, ap₂}
-use mathlib.Core.Bool.{Bool}
+use mathlib.Core.Bool.{Bool, true, false}
 use mathlib.Core.List.{List, [], _∷_, _++_, append-assoc}
-use Prim.Native.Nat.{ℕ, zero, suc, _≤_}
+use Prim.Native.Nat.{ℕ, zero, suc, _≤_, _<_}
 use native.Mathlib.Omega.{arith}
 use lib.ListN.{length, take, drop, length-drop}
-use borrow.Author.Tests.{le-ltb}
+use borrow.Author.Tests.{lt-ltb, le-ltb}
 use Rattle.meaning.specs.Receive.{received}
 use Rattle.meaning.specs.declared.Received.{Received}
 use Rattle.lines.specs.Text.{lineOf}
-use Rattle.lines.specs.Log.{with, itemsBy, items, answers, linesFrom, ending, printedFrom}
+use Rattle.lines.specs.Log.{none, with, itemsBy, items, answers, linesFrom, ending, printedFrom}
 
 -- ---- the items
 -- a bound that is large enough does not matter
@@ -30,6 +30,14 @@ unfolding items itemsBy
 items-frame n l h =
     rw (le-ltb (length l) n h)
     (ap (with (take n l)) (enough (length l) (length (drop n l)) (drop n l) (omega (arith, length-drop n l)) (omega arith)))
+
+pub items-cut : (n : ℕ) (l : List ℕ) → length l < n → items (n ∷ l) ≡ none true
+unfolding items itemsBy
+items-cut n l h = rw (lt-ltb (length l) n h)
+
+pub items-end : items [] ≡ none false
+unfolding items itemsBy
+items-end = refl
 
 -- ---- what is printed
 module _ (k : ℕ) (s o : List ℕ) where
