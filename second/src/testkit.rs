@@ -10,7 +10,8 @@
 //! - `BuildInput`, `RequestBreakage`, `request`: random build requests.
 //! - `KnownFrame`, `KnownRequest`: published vectors as whole frames.
 //! - `Cases`: the input of the answers program and what it must write.
-//! - `log_input`: a random input of the log program.
+//! - `run_of`, `log_of`, `log_input`: frames in a row, an input of the log
+//!   program, and a random one.
 //! - `hex`: octets from their hexadecimal digits.
 
 mod answers;
@@ -23,7 +24,7 @@ mod vectors;
 
 pub use answers::Cases;
 pub use damage::{Allowance, Breakage};
-pub use frames::{frame, frame_of, log_input, open_payload, FrameCase, Plan};
+pub use frames::{frame, frame_of, log_input, log_of, open_payload, run_of, FrameCase, Plan};
 pub use requests::{request, request_of, BuildInput, RequestBreakage};
 pub use rng::Rng;
 pub use sites::{Device, Handle, Level, Lookup, Settings, SiteSpec, Usage};

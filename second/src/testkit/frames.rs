@@ -523,21 +523,35 @@ fn level_passes(spec: &SiteSpec, kind: u8, command: u8, level: Option<u8>) -> bo
     level.map_or((1..=7).any(passes), passes)
 }
 
-/// A random input of the log program for a site: so many frames, mostly whole.
-pub fn log_input(rng: &mut Rng, spec: &SiteSpec, frames: usize) -> Vec<u8> {
-    let site = spec.encode();
+/// Frames one after the other, each behind its length octet.
+pub fn run_of<F: AsRef<[u8]>>(frames: &[F]) -> Vec<u8> {
+    let mut run = Vec::new();
+    for frame in frames.iter().map(AsRef::as_ref) {
+        run.push(frame.len() as u8);
+        run.extend(frame);
+    }
+    run
+}
+
+/// An input of the log program: site length, site, frames.
+pub fn log_of<F: AsRef<[u8]>>(site: &[u8], frames: &[F]) -> Vec<u8> {
     let mut input = (site.len() as u16).to_le_bytes().to_vec();
     input.extend(site);
+    input.extend(run_of(frames));
+    input
+}
+
+/// A random input of the log program for a site: so many frames, mostly whole.
+pub fn log_input(rng: &mut Rng, spec: &SiteSpec, frames: usize) -> Vec<u8> {
     let mut sent: Vec<Vec<u8>> = Vec::new();
     for _ in 0..frames {
         let frame = match sent.is_empty() || rng.chance(90) {
             true => frame(rng, spec).1,
             false => sent[rng.below(sent.len())].clone(),
         };
-        input.push(frame.len() as u8);
-        input.extend(&frame);
         sent.push(frame);
     }
+    let mut input = log_of(&spec.encode(), &sent);
     if rng.chance(10) {
         input.truncate(rng.below(input.len() + 1));
     }
