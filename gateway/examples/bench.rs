@@ -13,20 +13,22 @@
 //! repository's root; WIRDHALEF_EMULATOR may name a command that runs it and
 //! this program.
 
+#[path = "../tests/common/mod.rs"]
+mod common;
+
 use std::env;
 use std::fs::File;
 use std::io::{stdin, stdout, Read, Write};
 use std::ops::Range;
-use std::path::{Path, PathBuf};
-use std::process::{Command, Stdio};
+use std::path::Path;
 use std::time::{Duration, Instant};
 
-use second::testkit::{log_of, probe_frame, probed, run_of, Allowance, Rng};
-use second::{Address, Request};
+use common::{command, LOG};
+use second::testkit::{log_of, probe_frame, probe_request, probed, run_of};
+use second::testkit::{summed_again, Allowance, Rng};
 
 const KEY: [u8; 16] = [0x3c; 16];
 const LEAST: Duration = Duration::from_millis(200);
-const PROGRAM: &str = concat!(env!("CARGO_MANIFEST_DIR"), "/../target/bin/log");
 /// The frames of a log.
 const LOGGED: u32 = 20_000;
 /// Settings and first device: where the calls of this program change a site.
@@ -114,19 +116,8 @@ fn many(title: String, site: &[u8], len: usize) -> Row {
 }
 
 fn building(title: String, site: &[u8], level: u8, len: usize) -> Row {
-    let destination = Address { mode: 2, pan: 0x4321, address: 5 };
-    let plain = Request { kind: 1, version: 1, destination, srcmode: 2, ..Request::default() };
-    let request = Request { level, keymode: 1, keyindex: 1, ..plain };
-    let own = gateway::Request {
-        kind: 1,
-        version: 1,
-        destination: gateway::Address { mode: 2, pan: 0x4321, address: 5 },
-        srcmode: 2,
-        level,
-        keymode: 1,
-        keyindex: 1,
-        ..gateway::Request::default()
-    };
+    let request = probe_request(level);
+    let own = common::request(&request);
     let private = vec![7; len];
     let other = private.clone();
     row(
@@ -147,14 +138,6 @@ fn frames(len: usize, count: u32) -> Vec<Vec<u8>> {
     (0..count).map(|counter| probe_frame(counter, 6, &KEY, &vec![7; len])).collect()
 }
 
-/// The frame with its last octet before the FCS changed, and the FCS redone.
-fn wrong_tag(frame: &[u8]) -> Vec<u8> {
-    let mut body = frame[..frame.len() - 2].to_vec();
-    *body.last_mut().expect("a tag") ^= 1;
-    let sum = second::fcs::fcs(&body).to_le_bytes();
-    [&body[..], &sum].concat()
-}
-
 /// Short and full frames on a small and on the largest site, where what is
 /// sought stands first: a title, the private length and the site.
 fn shapes() -> Vec<(String, usize, Vec<u8>)> {
@@ -173,11 +156,11 @@ fn rows() -> Vec<Row> {
     let mut rows = Vec::new();
     for (shape, len, site) in shapes() {
         let good = frames(len, 1).remove(0);
-        let tagged = wrong_tag(&good);
-        let mut summed = good.clone();
-        summed[0] ^= 1;
+        let mut tagged = good.clone();
+        tagged[good.len() - 3] ^= 1;
         rows.push(receiving(format!("receive, accepted, {shape}"), &site, good));
-        rows.push(receiving(format!("receive, wrong FCS, {shape}"), &site, summed));
+        rows.push(receiving(format!("receive, wrong FCS, {shape}"), &site, tagged.clone()));
+        let tagged = summed_again(&tagged);
         rows.push(receiving(format!("receive, wrong tag, {shape}"), &site, tagged));
         rows.push(many(format!("receive many, accepted, {shape}"), &site, len));
         rows.push(building(format!("build, level 6, {shape}"), &site, 6, len));
@@ -211,36 +194,32 @@ fn line(title: &str, frames: u32, ours: f64, second: f64) {
     println!("{title:<44} {ours:>11.0} {second:>11.0} {:>6.2}", ours / second);
 }
 
-/// Runs a program on an input to its end.
-fn run(program: &Path, words: &[&str], input: &Path) {
-    let emulator = env::var("WIRDHALEF_EMULATOR").unwrap_or_default();
-    let path = program.to_str().expect("a readable path");
-    let mut all = emulator.split_whitespace().chain([path]).chain(words.iter().copied());
-    let output = Command::new(all.next().expect("a program"))
-        .args(all)
+/// Runs a log program on an input to its end.
+fn run(program: &str, words: &[&str], input: &Path) {
+    let output = command(program)
+        .args(words)
         .stdin(File::open(input).expect("the input"))
-        .stdout(Stdio::piped())
         .output()
         .expect("the log program runs");
     let accepted = [4, 102].map(|len| format!("{LOGGED} SUCCESS {len}\n"));
     let all = accepted.iter().any(|line| output.stdout.ends_with(line.as_bytes()));
-    assert!(all, "{path} accepts every frame (WIRDHALEF_EMULATOR names what runs it)");
+    assert!(all, "{program} accepts every frame (WIRDHALEF_EMULATOR names what runs it)");
 }
 
 /// The log program beside that of the second implementation, each with its
 /// start.
 fn time_logs() {
-    let program = PathBuf::from(PROGRAM);
-    if !program.exists() {
+    if !Path::new(LOG).exists() {
         println!("no log program: `rt check log` builds it");
         return;
     }
     let own = env::current_exe().expect("this program");
+    let own = own.to_str().expect("a readable path");
     let file = env::temp_dir().join(format!("wirdhalef-log-{}", std::process::id()));
     for (title, input) in logs(LOGGED) {
         std::fs::write(&file, input).expect("the input is written");
-        let ours = rate(&mut || run(&program, &[], &file), 1);
-        let second = rate(&mut || run(&own, &["log"], &file), 1);
+        let ours = rate(&mut || run(LOG, &[], &file), 1);
+        let second = rate(&mut || run(own, &["log"], &file), 1);
         line(&title, LOGGED, ours, second);
     }
     std::fs::remove_file(&file).expect("the input is removed");
