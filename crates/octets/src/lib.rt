@@ -38,8 +38,8 @@ fn join64(a: u32, b: u32) -> u64
     a as u64 + 4294967296 * (b as u64)
 }
 
-// The number in two octets that stand in the slice; so an octet is looked at with no test of its place.
-fn whole16(s: &[u8], at: usize) -> u16
+// The number in two octets that stand in the slice: no octet's place is tested.
+pub fn whole16(s: &[u8], at: usize) -> u16
     requires { ⌜ at + 2 ≤ length (now s) ⌝ }
     ensures { λ r. ⌜ r ≡ leAt 2 (now (s .entry)) at ⌝ }
 {
@@ -47,11 +47,19 @@ fn whole16(s: &[u8], at: usize) -> u16
 }
 
 // The number in four octets that stand in the slice.
-fn whole32(s: &[u8], at: usize) -> u32
+pub fn whole32(s: &[u8], at: usize) -> u32
     requires { ⌜ at + 4 ≤ length (now s) ⌝ }
     ensures { λ r. ⌜ r ≡ leAt 4 (now (s .entry)) at ⌝ }
 {
     join32(whole16(s, at), whole16(s, at + 2))
+}
+
+// The number in eight octets that stand in the slice.
+pub fn whole64(s: &[u8], at: usize) -> u64
+    requires { ⌜ at + 8 ≤ length (now s) ⌝ }
+    ensures { λ r. ⌜ r ≡ leAt 8 (now (s .entry)) at ⌝ }
+{
+    join64(whole32(s, at), whole32(s, at + 4))
 }
 
 // There are n octets from a place on.
@@ -92,7 +100,7 @@ pub fn number64(s: &[u8], at: usize) -> u64
     ensures { λ r. ⌜ r ≡ leAt 8 (now (s .entry)) at ⌝ }
 {
     if has(s, at, 8) {
-        return join64(whole32(s, at), whole32(s, at + 4));
+        return whole64(s, at);
     }
     join64(number32(s, at), number32(s, at + 4))
 }
