@@ -8,8 +8,8 @@ use lib.Dec.{T, eqb, eqb→eq}
 use lib.ListN.{getD, length}
 use Rattle.meaning.specs.Fcs.{IsTable, fed, shifted}
 use Rattle.meaning.proofs.Computed.{every, at}
-use Rattle.fcs.proofs.table.Statement.{statement}
-use Rattle.fcs.proofs.table.Tie as tie
+use Rattle.fcs.proofs.entries.table.Statement.{statement}
+use Rattle.fcs.proofs.entries.table.Tie as tie
 
 abbrev right : ℕ → ℕ → Bool
 right k x = eqb x (fed 8 0 k)
