@@ -1,11 +1,11 @@
--- `fill` is safe and ends. The loop's invariant: the place is within the buffer, which is as long as it was.
+-- `fill` is safe and ends. The loop's invariant: the place is within the buffer, which is as long as it was. Assumes nothing.
 use mathlib.Core.Path.{_≡_, refl, _∙_}
 use Prim.Native.Nat.{_-_, _≤_}
 use native.Mathlib.Omega.{arith}
 use borrow.Author.Needs.{needs}
 use lib.ListN.{length, length-set}
-use Rattle.vectors.proofs.fill.Statement.{statement}
-use Rattle.vectors.proofs.fill.Tie as tie
+use Rattle.vectors.proofs.records.fill.Statement.{statement}
+use Rattle.vectors.proofs.records.fill.Tie as tie
 
 abbrev Inv-loop : tie.InvT-loop
 Inv-loop out₀ vector at i₀ out i = (i ≤ length out₀) × (length out ≡ length out₀)

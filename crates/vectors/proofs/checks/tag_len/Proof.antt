@@ -1,8 +1,8 @@
--- `tag_len` meets its contract: no tag is longer than sixteen octets.
+-- `tag_len` meets its contract: no tag is longer than sixteen octets. Assumes nothing.
 use native.Mathlib.Omega.{arith}
 use Rattle.meaning.proofs.Ccm.{tagLen-le}
-use Rattle.vectors.proofs.tag_len.Statement.{statement}
-use Rattle.vectors.proofs.tag_len.Tie as tie
+use Rattle.vectors.proofs.checks.tag_len.Statement.{statement}
+use Rattle.vectors.proofs.checks.tag_len.Tie as tie
 
 returns : tie.Need-returns
 returns c = (c .tag-len .ensures, omega (arith, c .tag-len .ensures, tagLen-le (c .before .args .level)))

@@ -1,11 +1,11 @@
--- `seal_holds` is safe: the part lent is as long as it is said to be.
+-- `seal_holds` is safe: the part lent is as long as it is said to be. Assumes nothing.
 use mathlib.Core.Path.{sym}
 use native.Mathlib.Omega.{arith}
 use lib.ListN.{length-take}
 use lib.Seq.{length-take-le}
 use borrow.Author.Needs.{needs}
-use Rattle.vectors.proofs.seal_holds.Statement.{statement}
-use Rattle.vectors.proofs.seal_holds.Tie as tie
+use Rattle.vectors.proofs.checks.seal_holds.Statement.{statement}
+use Rattle.vectors.proofs.checks.seal_holds.Tie as tie
 
 add-n : tie.Need-add-n
 add-n c = search needs
