@@ -1,9 +1,9 @@
--- `round` is safe: the frame is a part of its array.
+-- `round` is safe: the frame is a part of its array. Assumes nothing.
 use mathlib.Core.Path.{sym}
 use lib.Seq.{length-take-le}
 use borrow.Author.Needs.{needs}
-use Rattle.shapes.proofs.round.Statement.{statement}
-use Rattle.shapes.proofs.round.Tie as tie
+use Rattle.shapes.proofs.rounds.round.Statement.{statement}
+use Rattle.shapes.proofs.rounds.round.Tie as tie
 
 slice-aggregate-build : tie.Need-slice-aggregate-build
 slice-aggregate-build c = search needs

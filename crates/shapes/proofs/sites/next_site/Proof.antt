@@ -1,9 +1,9 @@
--- `next_site` is safe: the site is the part that was read.
+-- `next_site` is safe: the site is the part that was read. Assumes nothing.
 use mathlib.Core.Path.{sym}
 use lib.Seq.{length-take-le}
 use borrow.Author.Needs.{needs}
-use Rattle.shapes.proofs.next_site.Statement.{statement}
-use Rattle.shapes.proofs.next_site.Tie as tie
+use Rattle.shapes.proofs.sites.next_site.Statement.{statement}
+use Rattle.shapes.proofs.sites.next_site.Tie as tie
 
 buffer-requires : tie.Need-buffer-requires
 buffer-requires c κs = search needs

@@ -1,9 +1,9 @@
--- `fresh_round` is safe: the copy is as long as the site.
+-- `fresh_round` is safe: the copy is as long as the site. Assumes nothing.
 use mathlib.Core.Path.{sym}
 use lib.Seq.{length-take-le}
 use borrow.Author.Needs.{needs}
-use Rattle.shapes.proofs.fresh_round.Statement.{statement}
-use Rattle.shapes.proofs.fresh_round.Tie as tie
+use Rattle.shapes.proofs.rounds.fresh_round.Statement.{statement}
+use Rattle.shapes.proofs.rounds.fresh_round.Tie as tie
 
 buffer-requires : tie.Need-buffer-requires
 buffer-requires c κs = search needs

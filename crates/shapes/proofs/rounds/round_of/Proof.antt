@@ -1,9 +1,9 @@
--- `round_of` is safe: the payloads are parts of their arrays.
+-- `round_of` is safe: the payloads are parts of their arrays. Assumes nothing.
 use mathlib.Core.Path.{sym}
 use lib.Seq.{length-take-le}
 use borrow.Author.Needs.{needs}
-use Rattle.shapes.proofs.round_of.Statement.{statement}
-use Rattle.shapes.proofs.round_of.Tie as tie
+use Rattle.shapes.proofs.rounds.round_of.Statement.{statement}
+use Rattle.shapes.proofs.rounds.round_of.Tie as tie
 
 open-payload-requires : tie.Need-open-payload-requires
 open-payload-requires c κs = search needs

@@ -1,9 +1,9 @@
--- `read_site` is safe: the part read into is as long as it is said to be.
+-- `read_site` is safe: the part read into is as long as it is said to be. Assumes nothing.
 use mathlib.Core.Path.{sym}
 use lib.Seq.{length-take-le}
 use borrow.Author.Needs.{needs}
-use Rattle.shapes.proofs.read_site.Statement.{statement}
-use Rattle.shapes.proofs.read_site.Tie as tie
+use Rattle.shapes.proofs.sites.read_site.Statement.{statement}
+use Rattle.shapes.proofs.sites.read_site.Tie as tie
 
 slice-aggregate-read-full : tie.Need-slice-aggregate-read-full
 slice-aggregate-read-full c = search needs

@@ -1,11 +1,11 @@
--- `private_payload` is safe and ends: the loop stays within the array.
+-- `private_payload` is safe and ends: the loop stays within the array. Assumes nothing.
 use mathlib.Core.Path.{_≡_}
 use Prim.Native.Nat.{_-_, _≤_}
 use native.Mathlib.Omega.{arith}
 use borrow.Author.Needs.{needs}
 use lib.ListN.{length, length-set}
-use Rattle.shapes.proofs.private_payload.Statement.{statement}
-use Rattle.shapes.proofs.private_payload.Tie as tie
+use Rattle.shapes.proofs.requests.private_payload.Statement.{statement}
+use Rattle.shapes.proofs.requests.private_payload.Tie as tie
 
 abbrev Inv-loop : tie.InvT-loop
 Inv-loop text₀ i₀ text i = (i ≤ 128) × (length text ≡ 128)

@@ -1,8 +1,8 @@
--- `same_from` is safe and ends. The measure is what is left of n.
+-- `same_from` is safe and ends. The measure is what is left of n. Assumes nothing.
 use Prim.Native.Nat.{_-_, _≤_}
 use native.Mathlib.Omega.{arith}
-use Rattle.shapes.proofs.same_from.Statement.{statement}
-use Rattle.shapes.proofs.same_from.Tie as tie
+use Rattle.shapes.proofs.comparing.same_from.Statement.{statement}
+use Rattle.shapes.proofs.comparing.same_from.Tie as tie
 
 abbrev Inv-loop : tie.InvT-loop
 Inv-loop a b at n i₀ i = i ≤ n

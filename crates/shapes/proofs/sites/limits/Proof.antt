@@ -1,8 +1,8 @@
--- `limits` is safe and ends: it takes at most a hundred turns.
+-- `limits` is safe and ends: it takes at most a hundred turns. Assumes nothing.
 use Prim.Native.Nat.{_-_, _≤_}
 use native.Mathlib.Omega.{arith}
-use Rattle.shapes.proofs.limits.Statement.{statement}
-use Rattle.shapes.proofs.limits.Tie as tie
+use Rattle.shapes.proofs.sites.limits.Statement.{statement}
+use Rattle.shapes.proofs.sites.limits.Tie as tie
 
 abbrev Inv-loop : tie.InvT-loop
 Inv-loop turns₀ turns = turns ≤ 100
