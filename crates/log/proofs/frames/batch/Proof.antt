@@ -5,8 +5,8 @@ use mathlib.Core.Path.{refl, sym, _∙_}
 use Prim.Native.Nat.{_-_}
 use native.Mathlib.Omega.{arith}
 use Rattle.log.proofs.Batches.{next-facts, Going, going-none, going-more, going-end}
-use Rattle.log.proofs.batch.Statement.{statement}
-use Rattle.log.proofs.batch.Tie as tie
+use Rattle.log.proofs.frames.batch.Statement.{statement}
+use Rattle.log.proofs.frames.batch.Tie as tie
 
 abbrev Inv-loop : tie.InvT-loop
 Inv-loop sums sbox names ok site₀ out₀ first buf from have text₀ number₀ at₀ used₀ site out text number at used =

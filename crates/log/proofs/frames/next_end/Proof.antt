@@ -4,8 +4,8 @@ use Rattle.meaning.proofs.Tests.{tests}
 use Rattle.log.proofs.Batches.{next-on, next-off}
 use Rattle.log.specs.Buffers.{nextEnd, endOf}
 use borrow.Author.Needs.{needs}
-use Rattle.log.proofs.next_end.Statement.{statement}
-use Rattle.log.proofs.next_end.Tie as tie
+use Rattle.log.proofs.frames.next_end.Statement.{statement}
+use Rattle.log.proofs.frames.next_end.Tie as tie
 
 shared-slice-read-wide : tie.Need-shared-slice-read-wide
 shared-slice-read-wide c = search needs

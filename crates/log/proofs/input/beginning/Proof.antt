@@ -2,8 +2,8 @@
 -- Assumes nothing.
 use Rattle.log.proofs.Openings.{opening-empty, opening-long, opening-short, opening-site}
 use borrow.Author.Needs.{needs}
-use Rattle.log.proofs.beginning.Statement.{statement}
-use Rattle.log.proofs.beginning.Tie as tie
+use Rattle.log.proofs.input.beginning.Statement.{statement}
+use Rattle.log.proofs.input.beginning.Tie as tie
 
 returns : tie.Need-returns
 returns c = search opening-empty

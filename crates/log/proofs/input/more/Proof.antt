@@ -2,8 +2,8 @@
 -- Assumes nothing.
 use Rattle.log.proofs.Hands.{same-place}
 use borrow.Author.Needs.{needs}
-use Rattle.log.proofs.more.Statement.{statement}
-use Rattle.log.proofs.more.Tie as tie
+use Rattle.log.proofs.input.more.Statement.{statement}
+use Rattle.log.proofs.input.more.Tie as tie
 
 returns : tie.Need-returns
 returns c = same-place _ _ _ (c .before .before .pre .0) (c .before .before .pre .1)

@@ -3,8 +3,8 @@
 use mathlib.Core.Path.{sym, _∙_}
 use Rattle.log.proofs.Replies.{answered-valid, answered-broken}
 use borrow.Author.Needs.{needs}
-use Rattle.log.proofs.answer.Statement.{statement}
-use Rattle.log.proofs.answer.Tie as tie
+use Rattle.log.proofs.frames.answer.Statement.{statement}
+use Rattle.log.proofs.frames.answer.Tie as tie
 
 receive-valid-requires : tie.Need-receive-valid-requires
 receive-valid-requires c κs =

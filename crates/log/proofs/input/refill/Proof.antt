@@ -7,8 +7,8 @@ use Prim.Native.Nat.{_+_, _-_, _≤_}
 use borrow.Rule.Slice.PartMut.{same-len-mid}
 use Rattle.log.proofs.Hands.{behind, Moved, moved-none, moved-more, refilled}
 use lib.ListN.{length}
-use Rattle.log.proofs.refill.Statement.{statement}
-use Rattle.log.proofs.refill.Tie as tie
+use Rattle.log.proofs.input.refill.Statement.{statement}
+use Rattle.log.proofs.input.refill.Tie as tie
 
 abbrev Inv-loop : tie.InvT-loop
 Inv-loop buf₀ at have n i₀ buf i = (i ≤ n) × Moved buf₀ at buf i

@@ -3,8 +3,8 @@
 use native.Mathlib.Omega.{arith}
 use Rattle.meaning.proofs.Kept.{received-keeps}
 use borrow.Author.Needs.{needs}
-use Rattle.log.proofs.step.Statement.{statement}
-use Rattle.log.proofs.step.Tie as tie
+use Rattle.log.proofs.frames.step.Statement.{statement}
+use Rattle.log.proofs.frames.step.Tie as tie
 
 answer-requires : tie.Need-answer-requires
 answer-requires c κs = search needs

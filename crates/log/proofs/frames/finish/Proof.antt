@@ -6,8 +6,8 @@ use borrow.Author.Tests.{lt-ltb, le-ltb}
 use Rattle.lines.specs.Log.{ending}
 use Rattle.lines.proofs.Puts.{taken, long}
 use borrow.Author.Needs.{needs}
-use Rattle.log.proofs.finish.Statement.{statement}
-use Rattle.log.proofs.finish.Tie as tie
+use Rattle.log.proofs.frames.finish.Statement.{statement}
+use Rattle.log.proofs.frames.finish.Tie as tie
 
 cut-requires : tie.Need-cut-requires
 cut-requires c κs = search needs
