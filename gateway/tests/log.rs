@@ -11,7 +11,9 @@ use second::log;
 use second::testkit::{hex, log_input, Breakage, Rng, SiteSpec};
 
 fn program() -> PathBuf {
-    PathBuf::from(env!("CARGO_MANIFEST_DIR")).join("../target/bin/log")
+    let path = PathBuf::from(env!("CARGO_MANIFEST_DIR")).join("../target/bin/log");
+    assert!(path.exists(), "`rt check log` builds the log program");
+    path
 }
 
 /// What the program writes for an input.
@@ -40,15 +42,6 @@ fn check(input: &[u8]) {
     assert_eq!(String::from_utf8_lossy(&ours), String::from_utf8_lossy(&theirs), "{input:02x?}");
 }
 
-/// Nothing to compare where the program was not built.
-fn built() -> bool {
-    let built = program().exists();
-    if !built {
-        println!("no log program: not compared");
-    }
-    built
-}
-
 fn with_site(site: &[u8], frames: &[&[u8]]) -> Vec<u8> {
     let mut input = (site.len() as u16).to_le_bytes().to_vec();
     input.extend(site);
@@ -62,9 +55,6 @@ fn with_site(site: &[u8], frames: &[&[u8]]) -> Vec<u8> {
 /// The listing of the requirements, cut anywhere.
 #[test]
 fn listing_cut_anywhere() {
-    if !built() {
-        return;
-    }
     let (good, bad) = (hex("02 00 6A E4 79"), hex("02 00 6A E4 78"));
     let input = with_site(&SiteSpec::default().encode(), &[&good, &bad, &[]]);
     let listing = "frame status octets\n1 SUCCESS 0\n2 FCS 0\n3 LENGTH 0\n";
@@ -77,9 +67,6 @@ fn listing_cut_anywhere() {
 /// Sites that are too long, broken or of every size.
 #[test]
 fn sites() {
-    if !built() {
-        return;
-    }
     let mut rng = Rng::new(501);
     let good = hex("02 00 6A E4 79");
     check(&with_site(&[0; 3614], &[&[1, 2, 3]]));
@@ -96,9 +83,6 @@ fn sites() {
 /// Random logs, some of them cut, some long.
 #[test]
 fn random_logs() {
-    if !built() {
-        return;
-    }
     let mut rng = Rng::new(502);
     for round in 0..60 {
         let spec = SiteSpec::random(&mut rng);

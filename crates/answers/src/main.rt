@@ -81,6 +81,13 @@ fn tell_many(site: &mut [u8], frames: &[u8], out: &mut [u8]) {
     io::write_all(STDOUT_FILENO, out);
 }
 
+// Puts octets in front of the output, where they fit; nothing is told.
+fn fill(out: &mut [u8], octets: &[u8]) {
+    if octets.len() <= out.len() {
+        octets::copy_in(out, 0, octets);
+    }
+}
+
 // Answers one case on a site; its parts end at three places.
 fn answer(
     kind: u8,
@@ -109,6 +116,10 @@ fn answer(
     }
     if kind == 3 {
         tell_many(site, &parts[..first], out);
+        return;
+    }
+    if kind == 5 {
+        fill(out, &parts[..first]);
         return;
     }
     io::write_all(STDOUT_FILENO, site);

@@ -20,4 +20,6 @@ pub mod Pairs
 pub mod Symmetric
 pub mod Useless
 pub mod Honest
+pub mod Inputs
 pub mod Lines
+pub mod Logged

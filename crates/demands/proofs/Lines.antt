@@ -1,9 +1,9 @@
 -- The log prints the same lines of two inputs that pair up: by demand 3 the answers are equal, and the lines show nothing else.
 -- Assumes nothing.
-use Prim.Native.Nat.{ℕ, max}
-use mathlib.Core.Path.{_≡_, refl, ap₂}
+use Prim.Native.Nat.{ℕ, _+_, _-_, max}
+use mathlib.Core.Path.{_≡_, refl, sym, ap₂, _∙_}
 use mathlib.Core.List.{List, [], _∷_}
-use lib.ListN.{replicate}
+use lib.ListN.{length, replicate, length-drop}
 use Rattle.meaning.specs.Octets.{leAt}
 use Rattle.meaning.specs.Receive.{received}
 use Rattle.meaning.specs.declared.Received.{Received}
@@ -12,6 +12,7 @@ use Rattle.lines.proofs.Log.{printed-same}
 use Rattle.demands.specs.Secrecy.{Agree, Secret}
 use Rattle.demands.specs.Lines.{siteIn, restIn, AlikeInputs, SameLines}
 use Rattle.demands.proofs.Secrecy.{secrecy}
+use Rattle.demands.proofs.Inputs.{cuts-same}
 
 agreed-answers : (m : ℕ) (s t o p : List ℕ) (fs gs : List (List ℕ)) → Agree m s t o p fs gs → answers s o fs ≡ answers t p gs
 unfolding answers
@@ -23,6 +24,11 @@ agreed-answers m s t o p (f ∷ fs) (g ∷ gs) a =
     (agreed-answers (max m (received s f o .answer .private)) (received s f o .site) (received t g p .site) (received s f o .out) (received t g p .out) fs gs (a .1))
 
 module _ (i j : List ℕ) (a : AlikeInputs i j) where
+  rests : length (restIn i) ≡ length (restIn j)
+  unfolding restIn
+  rests =
+      length-drop (2 + leAt 2 i 0) i ∙ ap₂ (λ (m n : ℕ). m - (2 + n)) (a .lengths) (a .sizes) ∙ sym (length-drop (2 + leAt 2 j 0) j)
+
   with-site : printedWith (leAt 2 i 0) i ≡ printedWith (leAt 2 j 0) j
   unfolding printedWith siteIn restIn Secret
   with-site =
@@ -31,7 +37,7 @@ module _ (i j : List ℕ) (a : AlikeInputs i j) where
       printed-same 1 (siteIn i) (siteIn j) (replicate 127 0) (replicate 127 0) (restIn i) (restIn j)
       (agreed-answers 0 (siteIn i) (siteIn j) (replicate 127 0) (replicate 127 0) fs gs
       (secrecy (siteIn i) (siteIn j) (replicate 127 0) fs gs (a .sites) (a .frames)))
-      (a .cuts)
+      (cuts-same (siteIn i) (siteIn j) (replicate 127 0) (replicate 127 0) (restIn i) (restIn j) rests (a .frames))
 
   sized : printedSized (leAt 2 i 0) i ≡ printedSized (leAt 2 j 0) j
   unfolding printedSized

@@ -1,11 +1,12 @@
 -- Demand 3 for the log program: two inputs that pair up print the same lines. Assumes nothing: these are definitions.
--- siteIn, restIn   the site of an input, and the octets after it
--- AlikeInputs      two inputs whose sites are equal outside the key octets, and whose frames pair up
+-- siteIn, restIn    the site of an input, and the octets after it
+-- AlikeInputs       two inputs whose sites are equal outside the key octets, and whose frames pair up
+-- framed, inputOf   an input put together: the site's length, the site, each frame behind its length octet
 use Prim.Native.Nat.{ℕ, _+_}
 use mathlib.Core.Path.{_≡_}
-use mathlib.Core.List.{List}
+use mathlib.Core.List.{List, [], _∷_, _++_}
 use lib.ListN.{length, drop, replicate}
-use Rattle.meaning.specs.Octets.{leAt, part}
+use Rattle.meaning.specs.Octets.{leAt, octs, part}
 use Rattle.lines.specs.Log.{items, printed}
 use Rattle.demands.specs.Secrecy.{AlikeSites, Paired}
 
@@ -21,8 +22,13 @@ pub record AlikeInputs (i j : List ℕ) : Type 0 where
   pub sizes : leAt 2 i 0 ≡ leAt 2 j 0
   pub sites : AlikeSites (siteIn i) (siteIn j)
   pub frames : Paired (siteIn i) (siteIn j) (replicate 127 0) (replicate 127 0) (items (restIn i) .frames) (items (restIn j) .frames)
-  -- both end inside an item, or neither
-  pub cuts : items (restIn i) .cut ≡ items (restIn j) .cut
 
 unfoldable pub SameLines : Type 0
 SameLines = (i j : List ℕ) → AlikeInputs i j → printed i ≡ printed j
+
+unfoldable pub framed : List (List ℕ) → List ℕ
+framed [] = []
+framed (f ∷ fs) = length f ∷ (f ++ framed fs)
+
+unfoldable pub inputOf : List ℕ → List (List ℕ) → List ℕ
+inputOf s fs = octs 2 (length s) ++ (s ++ framed fs)

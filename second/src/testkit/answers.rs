@@ -12,6 +12,7 @@
 //! | 2 | a request in 28 octets, open and private payload | status and 256 times the length in 4, the output |
 //! | 3 | frames, each with its length octet | how many were accepted in 8, the output |
 //! | 4 | none | the site |
+//! | 5 | octets that go to the front of the output | nothing |
 
 use super::damage::{Allowance, Breakage};
 use super::frames::{frame, frame_of, FrameCase};

@@ -68,14 +68,26 @@ same-length-6 c = search needs
 returns-3 : tie.Need-returns-3
 returns-3 c = search needs
 
-write-all-requires : tie.Need-write-all-requires
-write-all-requires c κs = search needs
+slice-aggregate-fill : tie.Need-slice-aggregate-fill
+slice-aggregate-fill c = simp length-take (omega arith)
+
+fill-requires : tie.Need-fill-requires
+fill-requires c κs = search needs
 
 same-length-7 : tie.Need-same-length-7
 same-length-7 c = search needs
 
 returns-4 : tie.Need-returns-4
 returns-4 c = search needs
+
+write-all-requires : tie.Need-write-all-requires
+write-all-requires c κs = search needs
+
+same-length-8 : tie.Need-same-length-8
+same-length-8 c = search needs
+
+returns-5 : tie.Need-returns-5
+returns-5 c = search needs
 
 pub answer-spec : {M : Type 1} → statement M
 answer-spec =
@@ -102,6 +114,10 @@ answer-spec =
     same-length-5
     same-length-6
     returns-3
-    write-all-requires
+    slice-aggregate-fill
+    fill-requires
     same-length-7
-    returns-4)
+    returns-4
+    write-all-requires
+    same-length-8
+    returns-5)
