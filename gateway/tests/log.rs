@@ -2,12 +2,16 @@
 //! built, `target/bin/log` at the repository's root; WIRDHALEF_EMULATOR may
 //! name a command that runs it.
 
+mod common;
+
 use std::env;
 use std::io::Write;
 use std::path::PathBuf;
 use std::process::{Command, Stdio};
 
+use common::Histogram;
 use second::log;
+use second::status::NAMES;
 use second::testkit::{hex, log_input, Breakage, Rng, SiteSpec};
 
 fn program() -> PathBuf {
@@ -37,9 +41,11 @@ fn printed(input: &[u8]) -> Vec<u8> {
     output.stdout
 }
 
-fn check(input: &[u8]) {
-    let (ours, theirs) = (printed(input), log(input));
-    assert_eq!(String::from_utf8_lossy(&ours), String::from_utf8_lossy(&theirs), "{input:02x?}");
+/// Both print the same; gives the lines.
+fn check(input: &[u8]) -> String {
+    let [ours, theirs] = [printed(input), log(input)].map(|lines| String::from_utf8(lines));
+    assert_eq!(ours, theirs, "{input:02x?}");
+    theirs.expect("lines of text")
 }
 
 fn with_site(site: &[u8], frames: &[&[u8]]) -> Vec<u8> {
@@ -84,9 +90,14 @@ fn sites() {
 #[test]
 fn random_logs() {
     let mut rng = Rng::new(502);
+    let mut histogram = Histogram::default();
     for round in 0..60 {
         let spec = SiteSpec::random(&mut rng);
         let frames = if round % 20 == 0 { 2000 } else { 30 };
-        check(&log_input(&mut rng, &spec, frames));
+        let lines = check(&log_input(&mut rng, &spec, frames));
+        for name in lines.lines().skip(1).filter_map(|line| line.split(' ').nth(1)) {
+            histogram.add(NAMES.iter().position(|other| *other == name).expect("a status") as u8);
+        }
     }
+    histogram.check("random logs", &[(&[0, 3, 4, 5, 6], 100)]);
 }

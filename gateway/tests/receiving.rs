@@ -82,8 +82,7 @@ fn runs_of_frames() {
             spec.refresh(&site);
         }
     }
-    histogram.check("runs of frames", &REFUSALS, 100);
-    histogram.check("runs of frames", &[0], 5000);
+    histogram.check("runs of frames", &[(&REFUSALS, 100), (&[0], 5000)]);
     seen.check();
 }
 
@@ -100,7 +99,7 @@ fn every_case() {
             histogram.add(reception.agreed(Some(&spec)).answer.status);
         }
     }
-    histogram.check("every case", &[0, 3, 4, 5, 6, 7, 8, 9, 10, 11, 12, 13, 14, 15], 10);
+    histogram.check("every case", &[(&[0, 3, 4, 5, 6, 7, 8, 9, 10, 11, 12, 13, 14, 15], 10)]);
 }
 
 /// Each breakage of a site rule and each allowance in turn.
@@ -126,7 +125,7 @@ fn damaged_sites() {
             histogram.add(reception.agreed(None).answer.status);
         }
     }
-    histogram.check("damaged sites", &[1], 500);
+    histogram.check("damaged sites", &[(&[1], 500)]);
 }
 
 /// Sites with one octet changed or cut anywhere.
@@ -176,7 +175,7 @@ fn lengths() {
             }
         }
     }
-    histogram.check("lengths", &[2, 3, 4], 100);
+    histogram.check("lengths", &[(&[2, 3, 4], 100)]);
 }
 
 /// Every bit of a good frame flipped, the FCS redone or not; and every cut.
@@ -204,7 +203,7 @@ fn flipped_and_cut() {
             histogram.add(reception.agreed(Some(&spec)).answer.status);
         }
     }
-    histogram.check("flipped and cut", &[4, 5], 100);
+    histogram.check("flipped and cut", &[(&[4, 5], 100)]);
 }
 
 /// Receiving many frames in one call is receiving them one after the other.

@@ -25,11 +25,6 @@ pub rest : (n : ℕ) (s : List ℕ) → take (length s - n) (drop n s) ≡ drop 
 rest n s = take-all (length s - n) (drop n s) (omega (arith, length-drop n s))
 
 module _ (E : List ℕ → List ℕ) (nonce : List ℕ) (l : ℕ) where
-  -- the tag is cut from the sixteen octets of `tag`
-  pub tag-cut : (m : ℕ) (a q : List ℕ) → take m (wholeTag E nonce m a q) ≡ tagOf E nonce m a q
-  unfolding wholeTag tagOf
-  tag-cut m a q = refl
-
   pub crypt-on : {r : List ℕ} (q : List ℕ) → 4 ≤ l → r ≡ crypt E nonce q → r ≡ cryptBy E nonce l q
   unfolding cryptBy enciphers
   crypt-on q h e = on-le 4 l _ _ _ h e

@@ -286,15 +286,18 @@ impl Histogram {
         self.counts[usize::from(status)] += 1;
     }
 
-    /// Prints the counts; each of the statuses must have been answered so often.
-    pub fn check(&self, title: &str, statuses: &[u8], least: usize) {
+    /// Prints the counts; all statuses of a group must have been answered as
+    /// often as it says.
+    pub fn check(&self, title: &str, groups: &[(&[u8], usize)]) {
         println!("{title}: {} answers", self.counts.iter().sum::<usize>());
         for (count, name) in self.counts.iter().zip(second::status::NAMES) {
             println!("{count:>8} {name}");
         }
-        for &status in statuses {
-            let count = self.counts[usize::from(status)];
-            assert!(count >= least, "{title}: status {status} only {count} times");
+        for (statuses, least) in groups {
+            for &status in *statuses {
+                let count = self.counts[usize::from(status)];
+                assert!(count >= *least, "{title}: status {status} only {count} times");
+            }
         }
     }
 }

@@ -3,7 +3,7 @@ use mathlib.Core.Path.{_≡_}
 use native.Mathlib.Omega.{arith}
 use lib.ListN.{length, take}
 use lib.Seq.{length-take-le}
-use Rattle.meaning.proofs.Ccm.{tagLen-le}
+use Rattle.meaning.proofs.Lengths.{tag-bound}
 use Rattle.ccm.proofs.Levels.{taken, tag-on, tag-off}
 use borrow.Author.Needs.{needs}
 use Rattle.ccm.proofs.tag_at.Statement.{statement}
@@ -20,7 +20,7 @@ tag-requires c κs =
     let start = p .before .before .before in
     let a = start .args in
     let n : length (take (a .opens) (a .clear .now)) ≡ a .opens = length-take-le (a .opens) (a .clear .now) (start .pre .1 .0 .0) in
-    (start .pre .0, (omega (arith, p .tag-len .ensures, tagLen-le (a .level)), (omega (arith, n, start .pre .1 .0 .0, start .pre .1 .0 .1), start .pre .1 .1)))
+    (start .pre .0, (omega (arith, p .tag-len .ensures, tag-bound (a .level)), (omega (arith, n, start .pre .1 .0 .0, start .pre .1 .0 .1), start .pre .1 .1)))
 
 returns : tie.Need-returns
 returns c =
@@ -32,7 +32,7 @@ tag-requires-2 : tie.Need-tag-requires-2
 tag-requires-2 c κs =
     let p = c .before .before in
     let start = p .before .before .before in
-    (start .pre .0, (omega (arith, p .tag-len .ensures, tagLen-le (start .args .level)), (start .pre .1 .0 .1, omega arith)))
+    (start .pre .0, (omega (arith, p .tag-len .ensures, tag-bound (start .args .level)), (start .pre .1 .0 .1, omega arith)))
 
 returns-2 : tie.Need-returns-2
 returns-2 c =
