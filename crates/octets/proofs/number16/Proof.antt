@@ -1,4 +1,4 @@
--- `number16` meets its contract: by its two octets.
+-- `number16` meets its contract: by its two octets. Assumes nothing.
 use borrow.Author.Needs.{needs}
 use Rattle.octets.proofs.Halves.{read-one, read-halves}
 use Rattle.octets.proofs.number16.Statement.{statement}

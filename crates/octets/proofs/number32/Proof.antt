@@ -1,4 +1,4 @@
--- `number32` meets its contract, by its two halves.
+-- `number32` meets its contract, by its two halves. Assumes nothing.
 use borrow.Author.Needs.{needs}
 use Rattle.octets.proofs.Halves.{read-halves}
 use Rattle.octets.proofs.number32.Statement.{statement}
