@@ -1,8 +1,8 @@
--- `enciphers` meets its contract: by definition.
+-- `enciphers` meets its contract: by definition. Assumes nothing.
 use Rattle.meaning.specs.Frame.{enciphers}
 use mathlib.Core.Path.{refl}
-use Rattle.frame.proofs.levels.Level.enciphers.Statement.{statement}
-use Rattle.frame.proofs.levels.Level.enciphers.Tie as tie
+use Rattle.modes.proofs.Level.enciphers.Statement.{statement}
+use Rattle.modes.proofs.Level.enciphers.Tie as tie
 
 returns : tie.Need-returns
 unfolding enciphers

@@ -1,8 +1,8 @@
-// The eight security levels (standard, Table 58), under two orders at once.
+// Security levels and address modes: what their numbers say. Clients cite specs/Frame.antt of the meaning.
 ghost use mathlib.Core.Path.{_≡_};
-ghost use Rattle.meaning.specs.Frame.{tagLen, enciphers, atLeast};
+ghost use Rattle.meaning.specs.Frame.{addressLen, tagLen, enciphers, atLeast};
 
-// A security level by its number.
+// One of the eight security levels (standard, Table 58), by its number; they stand under two orders at once.
 pub struct Level(pub u8);
 
 impl Level {
@@ -64,9 +64,29 @@ pub fn tag_len(level: u8) -> usize
     Level(level).tag_len()
 }
 
+// A level enciphers the private payload.
+pub fn enciphers(level: u8) -> bool
+    ensures { λ r. ⌜ r ≡ enciphers level ⌝ }
+{
+    Level(level).enciphers()
+}
+
 // A level is at least the minimum, in both orders.
 pub fn at_least(level: u8, minimum: u8) -> bool
     ensures { λ r. ⌜ r ≡ atLeast level minimum ⌝ }
 {
     Level(level).at_least(Level(minimum))
+}
+
+// The octets of an address, by its mode.
+pub fn address_len(mode: u8) -> usize
+    ensures { λ r. ⌜ r ≡ addressLen mode ⌝ }
+{
+    if mode == 2 {
+        return 2;
+    }
+    if mode == 3 {
+        return 8;
+    }
+    0
 }

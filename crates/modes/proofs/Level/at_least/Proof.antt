@@ -1,9 +1,9 @@
--- `at_least` meets its contract: by the tests on the way.
+-- `at_least` meets its contract: by the tests on the way. Assumes nothing.
 use Rattle.meaning.proofs.Tests.{bools}
 use Rattle.meaning.specs.Frame.{atLeast}
 use mathlib.Core.Path.{sym}
-use Rattle.frame.proofs.levels.Level.at_least.Statement.{statement}
-use Rattle.frame.proofs.levels.Level.at_least.Tie as tie
+use Rattle.modes.proofs.Level.at_least.Statement.{statement}
+use Rattle.modes.proofs.Level.at_least.Tie as tie
 
 returns : tie.Need-returns
 unfolding atLeast

@@ -1,8 +1,8 @@
--- `tag_len` meets its contract: by the tests on the way.
+-- `tag_len` meets its contract: by the tests on the way. Assumes nothing.
 use Rattle.meaning.proofs.Tests.{tests}
 use Rattle.meaning.specs.Frame.{tagLen}
-use Rattle.frame.proofs.levels.Level.tag_len.Statement.{statement}
-use Rattle.frame.proofs.levels.Level.tag_len.Tie as tie
+use Rattle.modes.proofs.Level.tag_len.Statement.{statement}
+use Rattle.modes.proofs.Level.tag_len.Tie as tie
 
 returns : tie.Need-returns
 unfolding tagLen

@@ -1,8 +1,8 @@
--- `address_len` meets its contract: by the tests on the way.
+-- `address_len` meets its contract: by the tests on the way. Assumes nothing.
 use Rattle.meaning.proofs.Tests.{tests}
 use Rattle.meaning.specs.Frame.{addressLen}
-use Rattle.frame.proofs.division.address_len.Statement.{statement}
-use Rattle.frame.proofs.division.address_len.Tie as tie
+use Rattle.modes.proofs.address_len.Statement.{statement}
+use Rattle.modes.proofs.address_len.Tie as tie
 
 returns : tie.Need-returns
 unfolding addressLen
