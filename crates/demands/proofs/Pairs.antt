@@ -106,7 +106,7 @@ pair s t f g o p fs gs x y ex ey e l w c rest = (
 abbrev pub outA : List ℕ
 outA = 1 ∷ 2 ∷ 3 ∷ replicate 124 0
 
-abbrev pub outB : List ℕ
+abbrev outB : List ℕ
 outB = 4 ∷ 5 ∷ 6 ∷ replicate 124 0
 
 -- accepted at a level, by a device, with the private octets q
@@ -117,7 +117,7 @@ pub plain-A : received siteA (plain (1 ∷ 2 ∷ 3 ∷ [])) empty ≡ took siteA
 unfolding computed
 plain-A = refl
 
-pub plain-B : received siteB (plain (4 ∷ 5 ∷ 6 ∷ [])) empty ≡ took siteB (plain (4 ∷ 5 ∷ 6 ∷ [])) empty 0 0 (4 ∷ 5 ∷ 6 ∷ []) keep
+plain-B : received siteB (plain (4 ∷ 5 ∷ 6 ∷ [])) empty ≡ took siteB (plain (4 ∷ 5 ∷ 6 ∷ [])) empty 0 0 (4 ∷ 5 ∷ 6 ∷ []) keep
 unfolding computed
 plain-B = refl
 
@@ -125,7 +125,7 @@ pub strange-A : received siteA strange outA ≡ outcome (refusal Filtered) siteA
 unfolding computed
 strange-A = refl
 
-pub strange-B : received siteB strange outB ≡ outcome (refusal Filtered) siteB outB
+strange-B : received siteB strange outB ≡ outcome (refusal Filtered) siteB outB
 unfolding computed
 strange-B = refl
 
@@ -133,7 +133,7 @@ pub spoilt-A : received siteA (spoilt 0) outA ≡ outcome (refusal Fcs) siteA ou
 unfolding computed
 spoilt-A = refl
 
-pub spoilt-B : received siteB (spoilt 1) outB ≡ outcome (refusal Fcs) siteB outB
+spoilt-B : received siteB (spoilt 1) outB ≡ outcome (refusal Fcs) siteB outB
 unfolding computed
 spoilt-B = refl
 
@@ -141,7 +141,7 @@ pub late-A : received siteA lateA outA ≡ outcome (refusal CounterError) siteA 
 unfolding computed
 late-A = refl
 
-pub late-B : received siteB lateB outB ≡ outcome (refusal CounterError) siteB outB
+late-B : received siteB lateB outB ≡ outcome (refusal CounterError) siteB outB
 unfolding computed
 late-B = refl
 
@@ -153,7 +153,7 @@ pub untagged-A : received siteA untaggedA outA ≡ took siteA untaggedA outA 4 1
 unfolding computed
 untagged-A = refl
 
-pub untagged-B : received siteB untaggedB outB ≡ took siteB untaggedB outB 4 1 (text keyB untaggedB) (raise 0 0 5)
+untagged-B : received siteB untaggedB outB ≡ took siteB untaggedB outB 4 1 (text keyB untaggedB) (raise 0 0 5)
 unfolding computed
 untagged-B = refl
 
