@@ -21,10 +21,10 @@ use Rattle.demands.proofs.Computing.{computed}
 abbrev pub keyA : List ℕ
 keyA = tab (λ i. 0xc0 + i) 16
 
-abbrev pub keyB : List ℕ
+abbrev keyB : List ℕ
 keyB = tab (λ i. 0x30 + i) 16
 
-abbrev pub siteOf : List ℕ → ℕ → List ℕ
+abbrev siteOf : List ℕ → ℕ → List ℕ
 siteOf key counter =
     -- table of contents
     (1 ∷ 35 ∷ 1 ∷ 0 ∷ 42 ∷ 0 ∷ 2 ∷ 17 ∷ 1 ∷ 0 ∷ 77 ∷ 0 ∷ 3 ∷ 5 ∷ 1 ∷ 0 ∷ 94 ∷ 0 ∷ 4 ∷ 16 ∷ 1 ∷ 0 ∷ 99 ∷ 0
@@ -64,21 +64,21 @@ abbrev pub spoilt : ℕ → List ℕ
 spoilt z = 0x41 ∷ 0x88 ∷ 3 ∷ 0x21 ∷ 0x43 ∷ 1 ∷ 0 ∷ 2 ∷ 0 ∷ 7 ∷ z ∷ z ∷ []
 
 -- secured at a level, with a counter; after the open octets q has the private payload and the tag
-abbrev pub secured : ℕ → ℕ → List ℕ → List ℕ
+abbrev secured : ℕ → ℕ → List ℕ → List ℕ
 secured level counter q =
     withFcs (0x09 ∷ 0x18 ∷ 5 ∷ 0x21 ∷ 0x43 ∷ 1 ∷ 0 ∷ (level + 8) ∷ counter ∷ 0 ∷ 0 ∷ 0 ∷ 7 ∷ q)
 
 abbrev pub lateA : List ℕ
 lateA = secured 6 4 (1 ∷ 2 ∷ 3 ∷ 4 ∷ 5 ∷ 6 ∷ 7 ∷ 8 ∷ 9 ∷ [])
 
-abbrev pub lateB : List ℕ
+abbrev lateB : List ℕ
 lateB = secured 6 4 (9 ∷ 8 ∷ 7 ∷ 6 ∷ 5 ∷ 4 ∷ 3 ∷ 2 ∷ 1 ∷ [])
 
 -- level 4: enciphered, without a tag
 abbrev pub untaggedA : List ℕ
 untaggedA = secured 4 5 (1 ∷ 2 ∷ [])
 
-abbrev pub untaggedB : List ℕ
+abbrev untaggedB : List ℕ
 untaggedB = secured 4 5 (3 ∷ 4 ∷ [])
 
 abbrev pub framesA : List (List ℕ)
