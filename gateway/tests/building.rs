@@ -31,7 +31,7 @@ fn runs_of_requests() {
             spec.refresh(&site);
         }
     }
-    histogram.check("runs of requests", &[0, 2, 8, 11, 14, 16, 17], 100);
+    histogram.check("runs of requests", &[(&[0, 2, 8, 11, 14, 16, 17], 100)]);
     println!("built by level and key mode: {levels:?}");
     assert!(levels.iter().flatten().all(|count| *count > 20));
 }
@@ -62,8 +62,7 @@ fn broken_requests() {
         assert_eq!(status, 1, "{}", breakage.name());
         histogram.add(status);
     }
-    histogram.check("broken requests", &[17], 500);
-    histogram.check("broken requests", &[1], 50);
+    histogram.check("broken requests", &[(&[17], 500), (&[1], 50)]);
 }
 
 /// Private payloads of every length up to 300, and output buffers around 127.
@@ -82,7 +81,7 @@ fn lengths() {
             histogram.add(order.agreed(Some(&spec)).answer.status);
         }
     }
-    histogram.check("lengths", &[0, 2, 16], 20);
+    histogram.check("lengths", &[(&[0, 2, 16], 20)]);
 }
 
 /// Every octet of a packed request and every payload length near the limits.
@@ -109,5 +108,5 @@ fn any_request() {
             histogram.add(order.agreed(Some(&spec)).answer.status);
         }
     }
-    histogram.check("any request", &[0, 17], 100);
+    histogram.check("any request", &[(&[0, 17], 100)]);
 }

@@ -1,6 +1,6 @@
-pub mod Field
+pub mod Products
 pub mod Sixteen
-pub mod Rounds
+pub mod Turns
 pub mod Expansion
 pub mod Laws
 pub mod Examples

@@ -15,13 +15,13 @@ use Rattle.meaning.specs.declared.Found.the-variants.{At, Nothing}
 use Rattle.meaning.specs.declared.Refusal.the-variants.{UnavailableKey}
 use Rattle.meaning.specs.declared.Address.{Address}
 use Rattle.meaning.specs.declared.Request.{Request}
-use Rattle.meaning.proofs.Ways.{key-below}
+use Rattle.meaning.proofs.Rows.{key-below}
+use Rattle.meaning.proofs.Lists.{length-take-most}
 use Rattle.meaning.proofs.Lengths.{key-source-bound}
 use Rattle.search.specs.Rows.{keyRowBy}
 use Rattle.search.proofs.Laws.{keyRow-by}
 use Rattle.builder.specs.declared.decision.Decision.the-variants.{Refused, Keyed}
 use Rattle.builder.specs.Decided.{keyed, chosen}
-use Rattle.builder.proofs.Sizes.{length-take-most}
 
 -- ---- the key source
 pub part-few : (s r : List ℕ) (at : ℕ) → r ≡ part at 8 s → length r ≤ 8
@@ -49,7 +49,7 @@ module _ (b t : List ℕ) (mode index : ℕ) (given : List ℕ) (a f p : Address
 -- a record that was found stands in the table
 pub row-inside : (b t : List ℕ) (mode index : ℕ) (given : List ℕ) (p : Address) (u : Found) (i : ℕ) → u ≡ keyRow b t mode index given p → u ≡ At i → 22 * i + 22 ≤ length b
 row-inside b t mode index given p u i e h =
-    let l : i < length b / 22 = key-below b t mode index given p i (sym e ∙ h) in
+    let l : i < length b / 22 = key-below b t mode index given p u i e h in
     omega arith
 
 module _ (t b : List ℕ) (c : ℕ) (q : Request) (u : Found)

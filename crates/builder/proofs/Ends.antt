@@ -25,7 +25,7 @@ use Rattle.meaning.proofs.Scan.{pick-all}
 use Rattle.meaning.proofs.Stores.{sets-beside}
 use Rattle.meaning.proofs.Numbers.{leAt-take, leAt-drop, leAt-lt}
 use Rattle.meaning.proofs.Sites.{rule-one, rule-lookups, length-body}
-use Rattle.meaning.proofs.Ways.{key-below}
+use Rattle.meaning.proofs.Rows.{key-below}
 use Rattle.builder.specs.declared.decision.Decision.{Decision}
 use Rattle.builder.specs.declared.decision.Decision.the-variants.{Refused, Plain, Keyed}
 use Rattle.builder.specs.Decided.{keyed, chosen, decided, decidedAt, keyedBody}
@@ -49,7 +49,7 @@ module _ (t b : List ℕ) (c : ℕ) (q : Request) (o p : List ℕ) (room : ℕ) 
   found-way : Passed → (c ≡ 0xffff_ffff → ⊥) → (u : Found) → keyRow b t (q .keymode) (q .keyindex) (q .keysource) (peerOf t (fitted (q .destination))) ≡ u → Way (keyed b u)
   unfolding keyed
   found-way w n Nothing e = way-refused
-  found-way w n (At i) e = way-keyed i w n (key-below b t (q .keymode) (q .keyindex) (q .keysource) (peerOf t (fitted (q .destination))) i e)
+  found-way w n (At i) e = way-keyed i w n (key-below b t (q .keymode) (q .keyindex) (q .keysource) (peerOf t (fitted (q .destination))) _ i refl e)
 
   chosen-way : Passed → Way (chosen t b c q)
   unfolding chosen

@@ -3,18 +3,17 @@
 --     rule-kept     the site holds them afterwards
 --     border        header 9, key mode 1, level 6: the frame has 25 octets more than its private payload, so 102 fit and 103 do not
 use mathlib.Core.Path.{_≡_, refl, sym, ap, _∙_}
-use mathlib.Core.Bool.{Bool, true, false}
+use mathlib.Core.Bool.{true}
 use mathlib.Core.List.{List, []}
 use Prim.Native.Nat.{ℕ, _+_, _≤_}
 use native.Mathlib.Omega.{arith}
 use lib.ListN.{length}
-use Rattle.meaning.specs.Octets.{beside}
 use Rattle.meaning.specs.Frame.{keySourceLen, keyIdLen, tagLen}
 use Rattle.meaning.specs.Site.{settingsOf, siteRule}
 use Rattle.meaning.specs.Build.{headerBy, headOctets, auxOctets, withFcs, plainBody, frameLen, Construction, ownRaised, laid, builtValid}
 use Rattle.meaning.specs.declared.Header.{Header}
 use Rattle.meaning.specs.declared.Request.{Request}
-use Rattle.meaning.proofs.Sites.{own-rule, own-length}
+use Rattle.meaning.proofs.Raises.{own-rule, own-length}
 use Rattle.meaning.proofs.Stores.{length-beside}
 use Rattle.builder.specs.declared.decision.Decision.{Decision}
 use Rattle.builder.specs.declared.decision.Decision.the-variants.{Refused, Plain, Keyed}

@@ -3,9 +3,8 @@ use mathlib.Core.Path.{_≡_, refl, sym, ap, _∙_}
 use mathlib.Core.Bool.{Bool, true, false}
 use mathlib.Core.List.{List, [], _∷_, _++_}
 use Prim.Native.Nat.{ℕ, _+_, _*_, _≤_, _<_}
-use native.Mathlib.Nat.{min-le-left}
 use native.Mathlib.Omega.{arith}
-use lib.ListN.{length, take, length-append, length-take}
+use lib.ListN.{length, take, length-append}
 use lib.Seq.{length-take-le}
 use lib.Dec.{eqb, leb}
 use borrow.Author.Tests.{eq-eqb, ne-eqb, lt-leb}
@@ -15,6 +14,7 @@ use Rattle.meaning.specs.Build.{addressOctets, placedOctets, sourceOctets, head
 use Rattle.meaning.specs.declared.Address.{Address}
 use Rattle.meaning.specs.declared.Header.{Header}
 use Rattle.meaning.specs.declared.Request.{Request}
+use Rattle.meaning.proofs.Lists.{length-take-most}
 use Rattle.meaning.proofs.Numbers.{length-octs}
 use Rattle.meaning.proofs.Scan.{pick-all}
 use Rattle.meaning.proofs.Lengths.{address-bound, key-source-bound}
@@ -64,9 +64,6 @@ pub head-bound : (h : Header) → length (headOctets h) ≤ 23
 head-bound h = omega (arith, length-head h, placed-bound (h .destination), source-bound h)
 
 -- ---- the security header
-pub length-take-most : (n : ℕ) (s : List ℕ) → length (take n s) ≤ n
-length-take-most n s = rw (length-take n s) (min-le-left n (length s))
-
 key-id-length : (q : Request) → length (q .keysource) ≡ 8 → length (keyIdOctets q) ≡ keyIdLen (q .keymode)
 unfolding keyIdOctets keyIdLen
 key-id-length q h = go (eqb (q .keymode) 0)

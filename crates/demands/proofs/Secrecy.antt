@@ -51,7 +51,8 @@ use Rattle.meaning.proofs.Lists.{take-pre, take-comm, drop-pre, drop-more, over
 use Rattle.meaning.proofs.Frame.{view-same, open-end}
 use Rattle.meaning.proofs.Ccm.{length-text}
 use Rattle.meaning.proofs.Ways.{secure-fits}
-use Rattle.meaning.proofs.Sites.{length-body, rule-handles, raised-rule}
+use Rattle.meaning.proofs.Sites.{length-body, rule-handles}
+use Rattle.meaning.proofs.Raises.{raised-rule}
 use Rattle.demands.specs.Secrecy.{AlikeSites, span, outside, tagAt, tagSeen, AlikeFrames, Paired, Agreed, Agree, Secret}
 use Rattle.demands.proofs.Alike.{alike-broken, alike-rule, alike-tables, alike-counters, raised-alike}
 

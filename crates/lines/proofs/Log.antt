@@ -9,7 +9,7 @@ use lib.ListN.{length, take, drop, length-drop}
 use borrow.Author.Tests.{lt-ltb, le-ltb}
 use Rattle.meaning.specs.Receive.{received}
 use Rattle.meaning.specs.declared.Received.{Received}
-use Rattle.lines.specs.Text.{cutLine, lineOf}
+use Rattle.lines.specs.Text.{lineOf}
 use Rattle.lines.specs.Log.{none, with, itemsBy, items, answers, linesFrom, ending, printedFrom}
 
 -- ---- the items
@@ -47,14 +47,6 @@ module _ (k : ℕ) (s o : List ℕ) where
       ++ printedFrom (suc k) (received s (take n l) o .site) (received s (take n l) o .out) (drop n l)
   unfolding printedFrom answers linesFrom
   printed-frame n l h = rw (items-frame n l h) (append-assoc (lineOf k _ _) _ _)
-
-  pub printed-cut : (n : ℕ) (l : List ℕ) → length l < n → printedFrom k s o (n ∷ l) ≡ cutLine
-  unfolding printedFrom answers linesFrom ending
-  printed-cut n l h = rw (items-cut n l h)
-
-  pub printed-end : printedFrom k s o [] ≡ []
-  unfolding printedFrom answers linesFrom ending
-  printed-end = rw items-end
 
 -- equal answers, equal lines
 pub printed-same : (k : ℕ) (s t o p l m : List ℕ) → answers s o (items l .frames) ≡ answers t p (items m .frames) → items l .cut ≡ items m .cut

@@ -12,13 +12,12 @@ use mathlib.Core.Bool.{Bool, true, false}
 use mathlib.Core.List.{List, [], _∷_, _++_}
 use lib.ListN.{length, getD, drop, replicate, length-take, length-drop, length-append, length-replicate, List·getD-append}
 use lib.Seq.{take-append-le, drop-append-le, getD-append-add}
-use lib.Dec.{eqb}
 use lib.Bits.{bitXor, xor-zero-r}
 use borrow.Author.Tests.{ne-eqb}
-use Rattle.meaning.specs.Octets.{pick}
 use Rattle.meaning.specs.Frame.{tagLen, enciphers}
 use Rattle.meaning.specs.Ccm.{xorBy, padded, flagsOf, counterBlock, chain, macOf, tagOf, stream, crypt, sealedBy, sealed, unsealedBy, unsealed}
 use Rattle.meaning.proofs.Lists.{same-self}
+use Rattle.meaning.proofs.Lengths.{tag-bound}
 use Rattle.meaning.proofs.Xor.{xor-cancel}
 
 -- ---- exclusive or of lists
@@ -80,17 +79,6 @@ module _ (n : ℕ) (some : 0 < n) where
   pub flags-16 : flagsOf 16 n ≡ 0x79
   unfolding flagsOf
   flags-16 = rw (ne-eqb n 0 (λ e. omega arith))
-
--- ---- the tag's length
-pick-le : (t : Bool) (a b c : ℕ) → a ≤ c → b ≤ c → pick t a b ≤ c
-pick-le true a b c h k = h
-pick-le false a b c h k = k
-
-pub tagLen-le : (l : ℕ) → tagLen l ≤ 16
-unfolding tagLen
-tagLen-le l =
-    pick-le (eqb (l % 4) 0) 0 _ 16 (omega arith)
-    (pick-le (eqb (l % 4) 1) 4 _ 16 (omega arith) (pick-le (eqb (l % 4) 2) 8 16 16 (omega arith) (omega arith)))
 
 module _ (E : List ℕ → List ℕ) where
   -- ---- the chain over two runs of blocks is that over the one and then the other
@@ -162,7 +150,7 @@ module _ (E : List ℕ → List ℕ) where
 
     pub length-tag : (n : List ℕ) (l : ℕ) (a q : List ℕ) → length (sealed E n l a q .tag) ≡ tagLen l
     unfolding sealed
-    length-tag n l a q = tag-by (enciphers l) n (tagLen l) a q (tagLen-le l)
+    length-tag n l a q = tag-by (enciphers l) n (tagLen l) a q (tag-bound l)
 
     -- ---- an octet of the key stream is that of its block
     pub getD-stream : (nonce : List ℕ) (n i k : ℕ) → k < 16 * n → getD (stream E nonce n i) k 0 ≡ getD (E (counterBlock nonce (i + k / 16))) (k % 16) 0

@@ -1,11 +1,9 @@
 -- A value that a chain of `pick`s gives, by the tests on the way: one lemma for each test and side, for `search`.
 use mathlib.Core.Path.{_≡_, refl, ap, sym, _∙_}
 use mathlib.Core.Bool.{Bool, true, false, _&&_, _||_, not}
-use Prim.Native.Nat.{ℕ, _+_, _-_, _≤_, _<_}
+use Prim.Native.Nat.{ℕ, _-_, _≤_, _<_}
 use lib.Dec.{ltb, leb, eqb}
 use borrow.Author.Tests.{lt-ltb, le-ltb, le-leb, lt-leb, eq-eqb, ne-eqb}
-use native.Mathlib.Nat.{add-sub-cancel-left}
-use native.Mathlib.Omega.{arith}
 use Rattle.meaning.specs.Octets.{pick}
 
 module _ {A : Type 0} where
@@ -87,6 +85,9 @@ eq-by a b u d h = eq-eqb a b (sym d ∙ h)
 
 pub ne-by : (a b u : ℕ) → u ≡ a → (u ≡ b → ⊥) → eqb a b ≡ false
 ne-by a b u d h = ne-eqb a b (λ e. h (d ∙ e))
+
+pub eq-last : (a b u : ℕ) → u ≡ a → eqb u b ≡ eqb a b
+eq-last a b u d = rw d
 
 pub ruleset compared = (eq-by, ne-by)
 

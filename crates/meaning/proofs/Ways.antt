@@ -1,42 +1,17 @@
 -- What an acceptance says: the way through the checks, read back from its end. One law for each combinator, then the chain. Assumes nothing.
-use mathlib.Core.Path.{_≡_, refl, sym, ap, _∙_, subst}
+use mathlib.Core.Path.{_≡_, refl}
 use mathlib.Core.Logic.{_≢_}
-use Prim.Native.Nat.{ℕ, zero, suc, _≤_, _<_, _+_, _*_, _-_}
+use Prim.Native.Nat.{ℕ, _≤_, _<_, _+_, _-_}
 use native.Mathlib.Omega.{arith}
-use mathlib.Core.Bool.{Bool, true, false, _&&_, _||_, not}
-use mathlib.Core.List.{List, []}
-use lib.ListN.{length, getD, take, drop, length-take}
-use lib.Dec.{leb, ltb, eqb}
+use mathlib.Core.Bool.{Bool, true, false, _||_}
+use mathlib.Core.List.{List}
+use lib.ListN.{length, take, drop}
+use lib.Dec.{leb, eqb}
 use borrow.Author.Tests.{leb-true, eqb-true, eqb-false}
-use Rattle.meaning.specs.Octets.{pick, first}
-use Rattle.meaning.specs.Fcs.{inner, fcsRight}
-use Rattle.meaning.specs.Frame.{
-  levelOf,
-  modeOf,
-  keyIndexOf,
-  tagLen,
-  auxM,
-  openM,
-  headM,
-  securityOf,
-  cutAux,
-  cutOpen,
-  divide,
-  cutsOf,
-  headerOf,
-  View,
-  view,
-  openEnd,
-  headRight,
-  shapeRight,
-  modesRight,
-  compressionRight,
-  bodied,
-  pendingRight,
-}
-use Rattle.meaning.specs.Site.{records, Tables, securityOn}
-use Rattle.meaning.specs.Steps.{levelRow, deviceRow, keyRow, keyOf, handleRow, handleOf, passes, overrides, lookupRow, peerOf, noDevice}
-use Rattle.meaning.specs.Filter.{cause}
+use Rattle.meaning.specs.Fcs.{inner}
+use Rattle.meaning.specs.Frame.{levelOf, tagLen, auxM, openM, headM, securityOf, cutAux, cutOpen, divide, cutsOf, headerOf, view, openEnd, headRight, shapeRight, modesRight, compressionRight, bodied}
+use Rattle.meaning.specs.Site.{records, Tables}
+use Rattle.meaning.specs.Steps.{keyOf, handleOf}
 use Rattle.meaning.specs.Room.{Fits}
 use Rattle.meaning.specs.Receive.{
   check,
@@ -57,13 +32,12 @@ use Rattle.meaning.specs.Receive.{
 use Rattle.meaning.specs.declared.Found.{Found}
 use Rattle.meaning.specs.declared.Found.the-variants.{At, Nothing}
 use Rattle.meaning.specs.declared.Refusal.{Refusal}
-use Rattle.meaning.specs.declared.Address.{Address}
-use Rattle.meaning.specs.declared.Device.{Device}
 use Rattle.meaning.specs.declared.Header.{Header}
 use Rattle.meaning.specs.declared.Judged.{Judged}
 use Rattle.meaning.specs.declared.Judged.the-variants.{Refused, Plain, Secure}
-use Rattle.meaning.proofs.Lists.{and-both, not-true}
-use Rattle.meaning.proofs.Scan.{first-all, pick-all}
+use Rattle.meaning.proofs.Lists.{and-both}
+use Rattle.meaning.proofs.Lengths.{no-tag}
+use Rattle.meaning.proofs.Rows.{key-below, handle-below}
 
 -- where it comes to a frame without security Q holds, and where it comes to key, handle and device P holds of them
 pub data Comes (Q : Type 0) (P : ℕ → ℕ → ℕ → Type 0) : Judged → Type 0 where
@@ -106,40 +80,6 @@ came-secure {P = P} {k = k} {j = j} {d = d} (to-key {k = k′} {j = j′} {d = d
     let c : d′ ≡ d = cc in
     rw (a, b, c) at h
 
--- ---- what is found lies in its table
-Below : ℕ → Found → Type 0
-Below n (At i) = i < n
-Below n Nothing = Unit
-
-pub found-below : (p : ℕ → Bool) (n i : ℕ) → first p At Nothing n ≡ At i → i < n
-unfolding Below
-found-below p n i e = subst (Below n) e (first-all (Below n) p At Nothing n (λ k l t. l) tt)
-
-pub lookup-below : (b : List ℕ) (mode at lead : ℕ) (wanted : List ℕ) (i : ℕ) → lookupRow b mode at lead wanted ≡ At i → i < records 22 b
-unfolding lookupRow
-lookup-below b mode at lead wanted i e = found-below _ _ i e
-
-pub key-below : (b t : List ℕ) (mode index : ℕ) (given : List ℕ) (p : Address) (i : ℕ) → keyRow b t mode index given p ≡ At i → i < records 22 b
-unfolding keyRow
-key-below b t mode index given p i =
-    pick-all (λ u. u ≡ At i → i < records 22 b) (eqb mode 0) _ _
-    (λ m. pick-all (λ u. u ≡ At i → i < records 22 b) (eqb (p .mode) 0) _ _
-    (λ n e. absurd (let z : _≡_ {A = ℕ} 0 1 = cc in omega arith))
-    (λ n. lookup-below b _ _ _ _ i))
-    (λ m. lookup-below b _ _ _ _ i)
-
-pub handle-below : (b : List ℕ) (ds : List Device) (k : ℕ) (p : Address) (j : ℕ) → handleRow b ds k p ≡ At j → j < records 2 b
-unfolding handleRow
-handle-below b ds k p j e = found-below _ _ j e
-
-pub device-below : (ds : List Device) (p : Address) (d : ℕ) → deviceRow ds p ≡ At d → d < length ds
-unfolding deviceRow
-device-below ds p d e = found-below _ _ d e
-
-pub level-below : (b : List ℕ) (kind command i : ℕ) → levelRow b kind command ≡ At i → i < records 5 b
-unfolding levelRow
-level-below b kind command i e = found-below _ _ i e
-
 or-one : (a b : Bool) → (a || b) ≡ true → b ≡ false → a ≡ true
 or-one true b e f = refl
 or-one false b e f = absurd (let z : _≡_ {A = ℕ} 0 1 = cc in omega arith)
@@ -166,7 +106,7 @@ module _ (t : Tables) (h : Header) (x o : List ℕ) where
       on-try Q P _ _ _
       (λ i e. on-try Q P _ _ _
       (λ u f. on-try Q P _ _ _
-      (λ j g. to-key (record { row = i; row-below = key-below _ _ _ _ _ _ i e; key = refl; handle-below = handle-below _ _ _ _ j g; device = refl; level = n }))))
+      (λ j g. to-key (record { row = i; row-below = key-below _ _ _ _ _ _ _ i refl e; key = refl; handle-below = handle-below _ _ _ _ _ j refl g; device = refl; level = n }))))
 
   exempt-known : levelOf x ≡ 0 → Comes Q P (onExempt t h)
   unfolding onExempt
@@ -200,10 +140,6 @@ no-open k l e = rw e
 no-level : (x : List ℕ) → levelOf (take 0 x) ≡ 0
 unfolding levelOf
 no-level x = refl
-
-no-tag : tagLen 0 ≡ 0
-unfolding tagLen
-no-tag = refl
 
 module _ (b : List ℕ) where
   pub aux-none : view b .header .security ≡ 0 → (cutsOf b .aux ≡ 0) × (levelOf (view b .aux) ≡ 0)

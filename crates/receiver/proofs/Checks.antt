@@ -27,8 +27,7 @@ use Rattle.meaning.specs.Steps.{
 }
 use Rattle.meaning.specs.Receive.{check, try, split, commandOf, onDevice, onUse, onKey, onExempt, onPolicy, onLevel, onSecurity}
 use Rattle.meaning.specs.declared.Found.{Found}
-use Rattle.meaning.specs.declared.Found.the-variants.{At, Nothing}
-use Rattle.meaning.specs.declared.Refusal.{Refusal}
+use Rattle.meaning.specs.declared.Found.the-variants.{At}
 use Rattle.meaning.specs.declared.Refusal.the-variants.{
   UnavailableKey,
   ImproperKeyType,
@@ -45,8 +44,8 @@ use Rattle.meaning.specs.declared.Judged.the-variants.{Refused, Plain, Secure}
 use Rattle.meaning.proofs.Tests.{and-right}
 use Rattle.meaning.proofs.Lengths.{level-bound}
 use Rattle.meaning.proofs.Tabs.{length-tab}
-use Rattle.meaning.proofs.Sites.{length-body, device-of, rule-handles, rule-lookups}
-use Rattle.meaning.proofs.Ways.{level-below, key-below, device-below, handle-below}
+use Rattle.meaning.proofs.Sites.{length-body, device-of, rule-handles}
+use Rattle.meaning.proofs.Rows.{level-below, device-below}
 use Rattle.search.specs.Rows.{keyRowBy, implicitRow}
 use Rattle.search.proofs.Laws.{keySource-length}
 
@@ -133,7 +132,7 @@ pub at-device : (s ds : List ℕ) (p : Address) (u : Found) (d : ℕ) (b : Bool)
 unfolding try
 at-device s ds p u d b z rule a e f t g =
     let n : records 17 (body s 1) ≡ countOf s 1 = seventeen s rule in
-    let l : d < length (tab (deviceAt (body s 1)) (records 17 (body s 1))) = device-below _ p d (sym (rw a at e) ∙ f) in
+    let l : d < length (tab (deviceAt (body s 1)) (records 17 (body s 1))) = device-below _ p u d (rw a at e) f in
     let m : d < countOf s 1 = rw (length-tab, n) at l in
     g ∙ rw (t, a, device-of s d m)
 
@@ -163,7 +162,7 @@ pub level-in : (s ls : List ℕ) (kind command i : ℕ) (u : Found) → siteRule
 unfolding widthOf
 level-in s ls kind command i u rule a e f =
     let n : records 5 (body s 2) ≡ countOf s 2 = records-is s rule 2 (omega arith) (omega arith) in
-    rw n at (level-below (body s 2) kind command i (sym (rw a at e) ∙ f))
+    rw n at (level-below (body s 2) kind command u i (rw a at e) f)
 
 -- ---- 8
 pub by-security : (s st : List ℕ) (h : Header) (xs os : List ℕ) (l : ℕ) (on : Bool) (z : Judged)

@@ -1,17 +1,17 @@
 -- The answer and what is written, at what the callees found. Assumes nothing.
-use mathlib.Core.Path.{_≡_, refl, ap, sym, _∙_, subst}
-use mathlib.Core.Bool.{Bool, true, false, _&&_, not}
-use mathlib.Core.List.{List, []}
-use Prim.Native.Nat.{ℕ, suc, _+_, _-_, _*_, _≤_, _<_}
+use mathlib.Core.Path.{_≡_, refl, ap, _∙_}
+use mathlib.Core.Bool.{Bool, true, false, not}
+use mathlib.Core.List.{List}
+use Prim.Native.Nat.{ℕ, suc, _+_, _-_, _≤_, _<_}
 use native.Mathlib.Numerals.{add-one}
 use native.Mathlib.Omega.{arith}
 use mir.Syntax.{w64}
 use mir.Val.{Fits as Fits64}
-use lib.ListN.{length, getD, take, drop, length-take, length-drop}
+use lib.ListN.{length, getD, take, length-take, length-drop}
 use lib.Seq.{sets}
 use lib.Dec.{leb, eqb}
 use borrow.Author.Tests.{le-leb, lt-leb, ne-eqb, eq-eqb}
-use Rattle.meaning.specs.Octets.{pick, part, beside, octs}
+use Rattle.meaning.specs.Octets.{part, beside}
 use Rattle.meaning.specs.Fcs.{inner}
 use Rattle.meaning.specs.Frame.{
   levelOf,
@@ -25,34 +25,9 @@ use Rattle.meaning.specs.Frame.{
   openEnd,
   privateLen,
 }
-use Rattle.meaning.specs.Site.{widthOf, limitOf, countOf, body, siteRule, deviceAt, counterAt, keyAt, storeOf, tablesOf}
+use Rattle.meaning.specs.Site.{widthOf, limitOf, countOf, body, siteRule, counterAt, keyAt, storeOf, tablesOf}
 use Rattle.meaning.specs.Steps.{noDevice, keyOf, handleOf}
-use Rattle.meaning.specs.Ccm.{Opened}
-use Rattle.meaning.specs.Receive.{
-  refusal,
-  report,
-  Raise,
-  keep,
-  raise,
-  stored,
-  raisedIn,
-  timely,
-  Verdict,
-  refuse,
-  accept,
-  privateOf,
-  opened,
-  tagged,
-  admit,
-  settle,
-  judged,
-  verdict,
-  Outcome,
-  outcome,
-  write,
-  receivedValid,
-  received,
-}
+use Rattle.meaning.specs.Receive.{refusal, report, raise, stored, raisedIn, timely, privateOf, opened, tagged, admit, settle, judged, verdict, Outcome, outcome, write, receivedValid, received}
 use Rattle.meaning.specs.Room.{Fits}
 use Rattle.meaning.specs.declared.Refusal.{Refusal}
 use Rattle.meaning.specs.declared.Refusal.the-variants.{Site, CounterError, SecurityError}
@@ -63,6 +38,7 @@ use Rattle.meaning.specs.declared.Judged.{Judged}
 use Rattle.meaning.specs.declared.Judged.the-variants.{Refused, Plain, Secure}
 use Rattle.meaning.specs.declared.Received.{Received}
 use Rattle.meaning.proofs.Tests.{and-right}
+use Rattle.meaning.proofs.Lengths.{no-tag}
 use Rattle.meaning.proofs.Stores.{sets-beside, take-beside}
 use Rattle.meaning.proofs.Ccm.{length-text}
 use Rattle.meaning.proofs.Sites.{rule-limit, rule-lookups, rule-handles, device-of, counter-of}
@@ -102,10 +78,6 @@ by-counter b c xs n e a g = g ∙ rw (a, e, view-aux b)
 length-inner : (f : List ℕ) → length (inner f) ≤ length f
 unfolding inner
 length-inner f = simp length-take (omega arith)
-
-no-tag : tagLen 0 ≡ 0
-unfolding tagLen
-no-tag = refl
 
 plain-len : (b : List ℕ) → levelOf (view b .aux) ≡ 0 → privateLen (view b) ≡ length b - openEnd (cutsOf b)
 unfolding privateLen

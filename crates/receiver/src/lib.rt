@@ -86,7 +86,7 @@ fn accepted(body: &[u8], device: usize) -> Received
         level: level,
         keymode: key_mode(level, frame::mode_of(aux)),
         device: device,
-        private: body.len() - (start + c.opens) - frame::tag_len(level),
+        private: body.len() - (start + c.opens) - modes::tag_len(level),
         start: start,
         len: c.opens,
     }
@@ -141,7 +141,7 @@ fn open_with(
     let c = frame::cuts(body);
     let opens = c.head + c.aux + c.opens;
     let level = frame::level_in(body, c);
-    let private = body.len() - opens - frame::tag_len(level);
+    let private = body.len() - opens - modes::tag_len(level);
     ccm::unseal(sbox, w, nonce, level, body, opens, private, scratch)
 }
 

@@ -1,108 +1,40 @@
--- What is found lies in its table; the searches over the devices by their octets; the key lookup by the source compared. Assumes nothing.
-use mathlib.Core.Path.{_≡_, refl, ap, sym, _∙_, subst}
+-- The searches over the devices by their octets; the key lookup by the source compared; a lookup record's test by its parts. Assumes nothing.
+use mathlib.Core.Path.{_≡_, refl, ap, sym, _∙_}
 use mathlib.Core.Bool.{Bool, true, false, _&&_}
 use mathlib.Core.List.{List, _++_}
-use Prim.Native.Nat.{ℕ, zero, suc, _+_, _*_, _-_, _≤_, _<_}
+use Prim.Native.Nat.{ℕ, _+_, _*_, _-_, _≤_, _<_}
 use native.Mathlib.Omega.{arith}
-use native.Mathlib.Nat.{min-le-left}
-use lib.ListN.{length, getD, take, drop, length-take, length-append}
+use lib.ListN.{length, getD, take, drop, length-append}
 use lib.Seq.{sets, take-at, take-append-add}
 use lib.Dec.{eqb}
-use Rattle.meaning.specs.Octets.{pick, scan, first, octs, stands, tab}
+use Rattle.meaning.specs.Octets.{first, octs, stands, tab}
 use Rattle.meaning.specs.Frame.{addressLen, keySourceLen}
 use Rattle.meaning.specs.Site.{records, deviceAt, defaultKeySource}
-use Rattle.meaning.specs.Steps.{
-  fits,
-  levelRow,
-  isPeer,
-  noDevice,
-  deviceRow,
-  fitsLookup,
-  lookupRow,
-  peerOctets,
-  keySource,
-  keyRow,
-  usageRow,
-  handleOf,
-  handleRow,
-}
+use Rattle.meaning.specs.Steps.{isPeer, noDevice, deviceRow, fitsLookup, peerOctets, keySource, keyRow, handleOf, handleRow}
 use Rattle.meaning.specs.declared.Found.{Found}
 use Rattle.meaning.specs.declared.Found.the-variants.{At, Nothing}
 use Rattle.meaning.specs.declared.Address.{Address}
 use Rattle.meaning.specs.declared.Device.{Device}
-use Rattle.meaning.proofs.Scan.{Passed, is-hit, first-all, pick-all}
+use Rattle.meaning.proofs.Lists.{length-take-most}
+use Rattle.meaning.proofs.Lengths.{address-bound, key-source-bound}
+use Rattle.meaning.proofs.Scan.{Passed, is-hit, first-same, pick-all}
 use Rattle.meaning.proofs.Tests.{and-on, and-left, and-right}
 use Rattle.meaning.proofs.Tabs.{length-tab, getD-tab}
 use Rattle.meaning.proofs.Stores.{sets-append, sets-whole}
 use Rattle.meaning.proofs.Numbers.{length-octs, octs-add}
+use Rattle.meaning.proofs.Rows.{device-below, source-below}
 use Rattle.search.specs.Rows.{implicitRow, keyRowBy}
 
 -- a loop's return at its place
 pub at-hit : (p : ℕ → Bool) (n i : ℕ) → Passed p At Nothing n i → i < n → p i ≡ true → At i ≡ first p At Nothing n
 at-hit p n i = is-hit p At Nothing n i
 
--- ---- what is found lies in its table
-Below : ℕ → Found → Type 0
-Below n (At i) = i < n
-Below n Nothing = Unit
-
--- u is a callee's answer, v its meaning
-below : (n : ℕ) (u v : Found) (i : ℕ) → Below n v → u ≡ v → u ≡ At i → i < n
-unfolding Below
-below n u v i w e h = subst (Below n) (sym e ∙ h) w
-
-first-below : (p : ℕ → Bool) (n : ℕ) → Below n (first p At Nothing n)
-unfolding Below
-first-below p n = first-all (Below n) p At Nothing n (λ k l t. l) tt
-
-pub level-below : (b : List ℕ) (kind command : ℕ) (u : Found) (i : ℕ) → u ≡ levelRow b kind command → u ≡ At i → i < records 5 b
-unfolding levelRow
-level-below b kind command u i = below (records 5 b) u (levelRow b kind command) i (first-below (λ i. fits b (5 * i) kind command) (records 5 b))
-
-pub usage-below : (b : List ℕ) (k kind command : ℕ) (u : Found) (i : ℕ) → u ≡ usageRow b k kind command → u ≡ At i → i < records 3 b
-unfolding usageRow
-usage-below b k kind command u i =
-    below (records 3 b) u (usageRow b k kind command) i
-    (first-below (λ i. eqb (getD b (3 * i) 0) k && fits b (3 * i + 1) kind command) (records 3 b))
-
-pub handle-below : (b : List ℕ) (ds : List Device) (k : ℕ) (p : Address) (u : Found) (j : ℕ) → u ≡ handleRow b ds k p → u ≡ At j → j < records 2 b
-unfolding handleRow
-handle-below b ds k p u j =
-    below (records 2 b) u (handleRow b ds k p) j
-    (first-below (λ j. eqb (getD b (2 * j) 0) k && isPeer p (getD ds (handleOf b j) noDevice)) (records 2 b))
-
-pub device-below : (ds : List Device) (p : Address) (u : Found) (d : ℕ) → u ≡ deviceRow ds p → u ≡ At d → d < length ds
-unfolding deviceRow
-device-below ds p u d = below (length ds) u (deviceRow ds p) d (first-below (λ d. isPeer p (getD ds d noDevice)) (length ds))
-
-lookup-below : (b : List ℕ) (mode at lead : ℕ) (wanted : List ℕ) → Below (records 22 b) (lookupRow b mode at lead wanted)
-unfolding lookupRow
-lookup-below b mode at lead wanted = first-below (fitsLookup b mode at lead wanted) (records 22 b)
-
-by-below : (b : List ℕ) (mode index : ℕ) (source : List ℕ) (p : Address) → Below (records 22 b) (keyRowBy b mode index source p)
-unfolding keyRowBy implicitRow Below
-by-below b mode index source p =
-    pick-all (Below (records 22 b)) (eqb mode 0) (implicitRow b p) (lookupRow b mode 2 index source)
-    (λ e. pick-all (Below (records 22 b)) (eqb (p .mode) 0) Nothing (lookupRow b 0 11 (p .mode) (peerOctets p)) (λ f. tt) (λ f. lookup-below b 0 11 (p .mode) (peerOctets p)))
-    (λ e. lookup-below b mode 2 index source)
-
-pub key-below : (b : List ℕ) (mode index : ℕ) (source : List ℕ) (p : Address) (u : Found) (i : ℕ) → u ≡ keyRowBy b mode index source p → u ≡ At i → i < records 22 b
-key-below b mode index source p u i = below (records 22 b) u (keyRowBy b mode index source p) i (by-below b mode index source p)
-
--- ---- two tests that agree below n find the same
-scan-same : (p q : ℕ → Bool) (n i : ℕ) → ((k : ℕ) → k < i + n → p k ≡ q k) → scan p At Nothing n i ≡ scan q At Nothing n i
-scan-same p q zero i h = refl
-scan-same p q (suc n) i h = rw (h i (omega arith), scan-same p q n (suc i) (λ k l. h k (omega arith)))
-
-first-same : (p q : ℕ → Bool) (n : ℕ) → ((k : ℕ) → k < n → p k ≡ q k) → first p At Nothing n ≡ first q At Nothing n
-first-same p q n h = scan-same p q n 0 (λ k l. h k (omega arith))
-
 -- ---- the devices by their octets
 pub deviceRow-tab : (b : List ℕ) (n : ℕ) (p : Address) → deviceRow (tab (deviceAt b) n) p ≡ first (λ d. isPeer p (deviceAt b d)) At Nothing n
 unfolding deviceRow
 deviceRow-tab b n p =
     rw (length-tab (deviceAt b) n)
-    (first-same (λ d. isPeer p (getD (tab (deviceAt b) n) d noDevice)) (λ d. isPeer p (deviceAt b d)) n
+    (first-same (λ d. isPeer p (getD (tab (deviceAt b) n) d noDevice)) (λ d. isPeer p (deviceAt b d)) At Nothing n
     (λ d l. ap (isPeer p) (getD-tab (deviceAt b) noDevice n d l)))
 
 pub handleRow-tab : (b devices : List ℕ) (n k : ℕ) (p : Address) → ((j : ℕ) → j < records 2 b → getD b (2 * j + 1) 0 < n)
@@ -112,7 +44,7 @@ handleRow-tab b devices n k p h =
     first-same
     (λ j. eqb (getD b (2 * j) 0) k && isPeer p (getD (tab (deviceAt devices) n) (getD b (2 * j + 1) 0) noDevice))
     (λ j. eqb (getD b (2 * j) 0) k && isPeer p (deviceAt devices (getD b (2 * j + 1) 0)))
-    (records 2 b)
+    At Nothing (records 2 b)
     (λ j l. ap (λ (d : Device). eqb (getD b (2 * j) 0) k && isPeer p d) (getD-tab (deviceAt devices) noDevice n (getD b (2 * j + 1) 0) (h j l)))
 
 -- a device found by its octets has its record there
@@ -129,26 +61,16 @@ pub keyRow-by : (b t : List ℕ) (mode index : ℕ) (given : List ℕ) (p : Addr
 unfolding keyRow keyRowBy implicitRow
 keyRow-by b t mode index given p = refl
 
--- the answer u to the source s lent
-pub keyRow-of : (b t : List ℕ) (mode index : ℕ) (given s : List ℕ) (p : Address) (u : Found)
-    → u ≡ keyRowBy b mode index s p → s ≡ keySource t given mode → u ≡ keyRow b t mode index given p
-keyRow-of b t mode index given s p u e d =
-    e ∙ ap (λ (x : List ℕ). keyRowBy b mode index x p) d ∙ sym (keyRow-by b t mode index given p)
-
-most : (s t : Bool) (a b : ℕ) → a ≤ 8 → b ≤ 8 → pick s a (pick t b 0) ≤ 8
-most true t a b h k = h
-most false true a b h k = k
-most false false a b h k = omega arith
-
-length-take-most : (n : ℕ) (s : List ℕ) → length (take n s) ≤ n
-length-take-most n s = rw (length-take n s) (min-le-left n (length s))
+pub key-below : (b : List ℕ) (mode index : ℕ) (source : List ℕ) (p : Address) (u : Found) (i : ℕ) → u ≡ keyRowBy b mode index source p → u ≡ At i → i < records 22 b
+unfolding keyRowBy implicitRow
+key-below = source-below
 
 -- a key source compared has at most 8 octets
 pub keySource-length : (t given : List ℕ) (mode : ℕ) → length (keySource t given mode) ≤ 8
 unfolding keySource keySourceLen defaultKeySource
 keySource-length t given mode =
     pick-all (λ s. length s ≤ 8) (eqb mode 1) (defaultKeySource t) (take (keySourceLen mode) given) (λ e. length-take-most 8 (drop 22 t))
-    (λ e. omega (arith, length-take-most (keySourceLen mode) given, most (eqb mode 2) (eqb mode 3) 4 8 (omega arith) (omega arith)))
+    (λ e. omega (arith, length-take-most (keySourceLen mode) given, key-source-bound mode))
 
 -- what the peer's mode takes of its octets
 take-octs : (k m n : ℕ) → k ≤ m → take k (octs m n) ≡ octs k n
@@ -168,7 +90,7 @@ lent r n p e d =
     let a : List ℕ = octs 2 (p .pan) in
     let b : List ℕ = octs 8 (p .address) in
     let l : length r ≡ 10 = ap length e ∙ omega (arith, length-append a b, length-octs 2 (p .pan), length-octs 8 (p .address)) in
-    let m : n ≤ 8 = omega (arith, most (eqb (p .mode) 2) (eqb (p .mode) 3) 2 8 (omega arith) (omega arith)) in
+    let m : n ≤ 8 = omega (arith, address-bound (p .mode)) in
     record {
       few = omega arith;
       room = omega arith;

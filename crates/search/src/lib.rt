@@ -9,7 +9,6 @@ ghost use Prim.Native.Nat.{ℕ, _+_, _*_, _/_, _%_, _^_, _≤_, _<_};
 ghost use lib.ListN.{length, getD};
 ghost use lib.Dec.{eqb};
 ghost use Rattle.meaning.specs.Octets.{octs, tab};
-ghost use Rattle.meaning.specs.Frame.{addressLen, atLeast};
 ghost use Rattle.meaning.specs.Site.{records, deviceAt};
 ghost use Rattle.meaning.specs.Steps.{
   fits,
@@ -55,16 +54,6 @@ pub fn level_row(levels: &[u8], kind: u8, command: u8) -> Found
     Found::Nothing
 }
 
-// a is at least b, in both orders of the levels.
-fn at_least(a: u8, b: u8) -> bool
-    ensures { λ r. ⌜ r ≡ atLeast a b ⌝ }
-{
-    if a / 4 < b / 4 {
-        return false;
-    }
-    b % 4 <= a % 4
-}
-
 // The level's bit is set.
 fn allowed(set: u8, level: u8) -> bool
     requires { ⌜ level < 8 ⌝ }
@@ -80,7 +69,7 @@ pub fn passes(levels: &[u8], i: usize, level: u8) -> bool
 {
     let at = 5 * i;
     if levels[at + 4] == 0 {
-        return at_least(level, levels[at + 2]);
+        return modes::at_least(level, levels[at + 2]);
     }
     allowed(levels[at + 4], level)
 }
@@ -221,19 +210,6 @@ pub fn lookup_row(lookups: &[u8], mode: u8, at: usize, lead: u8, wanted: &[u8]) 
     Found::At(number)
 }
 
-// How many octets an address of the mode has.
-fn address_len(mode: u8) -> usize
-    ensures { λ r. ⌜ r ≡ addressLen mode ⌝ }
-{
-    if mode == 2 {
-        return 2;
-    }
-    if mode == 3 {
-        return 8;
-    }
-    0
-}
-
 // PAN and address of a peer, the address as if it were extended.
 fn peer_octets(p: Address) -> [u8; 10]
     ensures { λ r. ⌜ r ≡ octs 2 (p .pan) ++ octs 8 (p .address) ⌝ }
@@ -253,7 +229,7 @@ fn implicit_row(lookups: &[u8], p: Address) -> Found
         return Found::Nothing;
     }
     let octets = peer_octets(p);
-    let n = 2 + address_len(mode);
+    let n = 2 + modes::address_len(mode);
     lookup_row(lookups, 0, 11, mode, &octets[..n])
 }
 

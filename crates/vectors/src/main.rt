@@ -65,7 +65,7 @@ fn cipher_holds(vector: &[u8]) -> bool {
 fn tag_len(level: u8) -> usize
     ensures { λ r. ⌜ (r ≡ tagLen level) × (r ≤ 16) ⌝ }
 {
-    ccm::tag_len(level)
+    modes::tag_len(level)
 }
 
 // Sealing in a buffer of the right length gives the octets and the tag given.

@@ -2,8 +2,22 @@
 //! an input cut down to what still tells them apart.
 #![allow(dead_code)]
 
-use second::fcs::fcs;
-use second::testkit::{BuildInput, SiteSpec};
+use std::env;
+use std::process::Command;
+
+use second::testkit::{summed, BuildInput, SiteSpec};
+
+/// The log program, where `rt check log` puts it.
+pub const LOG: &str = concat!(env!("CARGO_MANIFEST_DIR"), "/../target/bin/log");
+
+/// Runs a program for x86-64; WIRDHALEF_EMULATOR may name what runs it.
+pub fn command(program: &str) -> Command {
+    let emulator = env::var("WIRDHALEF_EMULATOR").unwrap_or_default();
+    let mut words = emulator.split_whitespace().chain([program]);
+    let mut command = Command::new(words.next().expect("a program"));
+    command.args(words);
+    command
+}
 
 /// What a call answers and what it leaves of all that was lent.
 #[derive(Clone, Debug, PartialEq, Eq)]
@@ -265,11 +279,6 @@ fn shorter_frames(frame: &[u8]) -> Vec<Vec<u8>> {
     all
 }
 
-/// The octets with their FCS behind.
-pub fn summed(body: &[u8]) -> Vec<u8> {
-    [body, &fcs(body).to_le_bytes()].concat()
-}
-
 /// A buffer of so many octets, none of them zero.
 pub fn buffer(len: usize) -> Vec<u8> {
     (0..len).map(|place| 0x80 | place as u8).collect()
@@ -286,15 +295,18 @@ impl Histogram {
         self.counts[usize::from(status)] += 1;
     }
 
-    /// Prints the counts; each of the statuses must have been answered so often.
-    pub fn check(&self, title: &str, statuses: &[u8], least: usize) {
+    /// Prints the counts; all statuses of a group must have been answered as
+    /// often as it says.
+    pub fn check(&self, title: &str, groups: &[(&[u8], usize)]) {
         println!("{title}: {} answers", self.counts.iter().sum::<usize>());
         for (count, name) in self.counts.iter().zip(second::status::NAMES) {
             println!("{count:>8} {name}");
         }
-        for &status in statuses {
-            let count = self.counts[usize::from(status)];
-            assert!(count >= least, "{title}: status {status} only {count} times");
+        for (statuses, least) in groups {
+            for &status in *statuses {
+                let count = self.counts[usize::from(status)];
+                assert!(count >= *least, "{title}: status {status} only {count} times");
+            }
         }
     }
 }

@@ -5,7 +5,7 @@ use Prim.Native.Nat.{ℕ, _+_}
 use native.Mathlib.Omega.{arith}
 use lib.ListN.{length, take, drop}
 use lib.Seq.{length-take-le}
-use Rattle.meaning.proofs.Ccm.{tagLen-le}
+use Rattle.meaning.proofs.Lengths.{tag-bound}
 use Rattle.ccm.proofs.Levels.{taken, opening}
 use borrow.Author.Needs.{needs}
 use Rattle.ccm.proofs.unseal.Statement.{statement}
@@ -45,13 +45,13 @@ tag-at-requires c κs =
 array-share-prefix-sum : tie.Need-array-share-prefix-sum
 array-share-prefix-sum c =
     let start = c .before .before .before .before .before .before .before .before .before .before .before .before .before .before .before .before in
-    omega (arith, c .before .tag-len .ensures, tagLen-le (start .args .level))
+    omega (arith, c .before .tag-len .ensures, tag-bound (start .args .level))
 
 slice-aggregate-equal : tie.Need-slice-aggregate-equal
 slice-aggregate-equal c =
     let k = c .before .before in
     let start = k .before .before .before .before .before .before .before .before .before .before .before .before .before .before .before in
-    taken (k .tag-len .result) (k .before .tag-at .result) (omega (arith, k .tag-len .ensures, tagLen-le (start .args .level)))
+    taken (k .tag-len .result) (k .before .tag-at .result) (omega (arith, k .tag-len .ensures, tag-bound (start .args .level)))
 
 returns : tie.Need-returns
 returns c =

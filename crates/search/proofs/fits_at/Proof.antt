@@ -1,21 +1,22 @@
 -- `search::fits_at` meets its contract: each return by the tests on its way. Assumes nothing.
 use borrow.Author.Needs.{needs}
 use Rattle.meaning.specs.Steps.{fits}
-use Rattle.search.proofs.Joined.{joined}
+use Rattle.meaning.proofs.Tests.{bools}
+use Rattle.meaning.proofs.Joined.{joined}
 use Rattle.search.proofs.fits_at.Statement.{statement}
 use Rattle.search.proofs.fits_at.Tie as tie
 
 returns : tie.Need-returns
 unfolding fits
-returns c = search joined
+returns c = search (joined, bools)
 
 returns-2 : tie.Need-returns-2
 unfolding fits
-returns-2 c = search joined
+returns-2 c = search (joined, bools)
 
 returns-3 : tie.Need-returns-3
 unfolding fits
-returns-3 c = search joined depth 9
+returns-3 c = search (joined, bools) depth 9
 
 pub fits-at-spec : {M : Type 1} → statement M
 fits-at-spec =

@@ -2,26 +2,26 @@
 use borrow.Author.Needs.{needs}
 use Rattle.meaning.specs.Site.{deviceAt}
 use Rattle.meaning.specs.Steps.{isPeer}
-use Rattle.meaning.proofs.Tests.{tests, compared}
-use Rattle.search.proofs.Joined.{joined}
+use Rattle.meaning.proofs.Tests.{tests, compared, eq-last}
+use Rattle.meaning.proofs.Joined.{joined}
 use Rattle.search.proofs.peer_at.Statement.{statement}
 use Rattle.search.proofs.peer_at.Tie as tie
 
 returns : tie.Need-returns
 unfolding isPeer deviceAt
-returns c = search (tests, joined, compared) depth 9
+returns c = search (tests, joined, compared, eq-last) depth 9
 
 returns-2 : tie.Need-returns-2
 unfolding isPeer deviceAt
-returns-2 c = search (tests, joined, compared) depth 9
+returns-2 c = search (tests, joined, compared, eq-last) depth 9
 
 returns-3 : tie.Need-returns-3
 unfolding isPeer deviceAt
-returns-3 c = search (tests, joined, compared) depth 9
+returns-3 c = search (tests, joined, compared, eq-last) depth 9
 
 returns-4 : tie.Need-returns-4
 unfolding isPeer deviceAt
-returns-4 c = search (tests, joined, compared) depth 9
+returns-4 c = search (tests, joined, compared, eq-last) depth 9
 
 returns-5 : tie.Need-returns-5
 unfolding isPeer deviceAt

@@ -1,6 +1,6 @@
 -- 13, at what the handle search found: `found-handle` and `by-handles`. Assumes nothing.
 use borrow.Author.Needs.{needs}
-use Rattle.search.proofs.Laws.{handle-below}
+use Rattle.meaning.proofs.Rows.{handle-below}
 use Rattle.meaning.specs.Receive.{try}
 use Rattle.receiver.proofs.Checks.{by-handles, found-handle, handles-in}
 use Rattle.receiver.proofs.stages.on_device.Statement.{statement}
