@@ -13,8 +13,8 @@ const EVERYBODY: Address = Address { mode: 2, pan: 0xffff, address: 0xffff };
 /// The site's own address, in the form of a mode.
 fn own(mode: u8) -> Address {
     match mode {
-        2 => Address { mode, pan: PAN, address: u64::from(SHORT) },
-        3 => Address { mode, pan: PAN, address: EXTENDED },
+        2 => Address::short(PAN, u64::from(SHORT)),
+        3 => Address::extended(PAN, EXTENDED),
         _ => Address::default(),
     }
 }
