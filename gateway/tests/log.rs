@@ -32,7 +32,7 @@ fn printed(input: &[u8]) -> Vec<u8> {
 
 /// Both print the same; gives the lines.
 fn check(input: &[u8]) -> String {
-    let [ours, theirs] = [printed(input), log(input)].map(|lines| String::from_utf8(lines));
+    let [ours, theirs] = [printed(input), log(input)].map(String::from_utf8);
     assert_eq!(ours, theirs, "{input:02x?}");
     theirs.expect("lines of text")
 }

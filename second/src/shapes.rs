@@ -67,7 +67,7 @@ fn shapes_site() -> SiteSpec {
 /// A site with so many records of each kind but the settings.
 fn counted(counts: [usize; 6]) -> Vec<u8> {
     let [devices, levels, keys, lookups, usages, handles] = counts;
-    let (last_key, last_device) = (keys.min(16).max(1) - 1, devices.min(64).max(1) - 1);
+    let (last_key, last_device) = (keys.clamp(1, 16) - 1, devices.clamp(1, 64) - 1);
     let device = |number: usize| Device {
         pan: PAN,
         short: number as u16,
