@@ -1,8 +1,8 @@
 -- The device of a handle is the octet that the definition reads. Assumes nothing.
 use borrow.Author.Needs.{needs}
 use Rattle.meaning.specs.Steps.{handleOf}
-use Rattle.receiver.proofs.stages.device_of.Statement.{statement}
-use Rattle.receiver.proofs.stages.device_of.Tie as tie
+use Rattle.search.proofs.device_of.Statement.{statement}
+use Rattle.search.proofs.device_of.Tie as tie
 
 mul-wide : tie.Need-mul-wide
 mul-wide c = search needs

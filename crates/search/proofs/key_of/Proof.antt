@@ -1,8 +1,8 @@
 -- The key of a lookup record is the octet that the definition reads. Assumes nothing.
 use borrow.Author.Needs.{needs}
 use Rattle.meaning.specs.Steps.{keyOf}
-use Rattle.receiver.proofs.stages.key_of.Statement.{statement}
-use Rattle.receiver.proofs.stages.key_of.Tie as tie
+use Rattle.search.proofs.key_of.Statement.{statement}
+use Rattle.search.proofs.key_of.Tie as tie
 
 mul-wide : tie.Need-mul-wide
 mul-wide c = search needs
