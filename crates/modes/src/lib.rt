@@ -1,6 +1,7 @@
 // Security levels and address modes: what their numbers say. Clients cite specs/Frame.antt of the meaning.
+use meaning::Address;
 ghost use mathlib.Core.Path.{_≡_};
-ghost use Rattle.meaning.specs.Frame.{addressLen, tagLen, enciphers, atLeast};
+ghost use Rattle.meaning.specs.Frame.{absent, addressLen, tagLen, enciphers, atLeast};
 
 // One of the eight security levels (standard, Table 58), by its number; they stand under two orders at once.
 pub struct Level(pub u8);
@@ -76,6 +77,17 @@ pub fn at_least(level: u8, minimum: u8) -> bool
     ensures { λ r. ⌜ r ≡ atLeast level minimum ⌝ }
 {
     Level(level).at_least(Level(minimum))
+}
+
+// No address: mode 0, and zero elsewhere.
+pub fn absent() -> Address
+    ensures { λ r. ⌜ r ≡ absent ⌝ }
+{
+    Address {
+        mode: 0,
+        pan: 0,
+        address: 0,
+    }
 }
 
 // The octets of an address, by its mode.

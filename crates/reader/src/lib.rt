@@ -169,11 +169,7 @@ fn address_of(mode: u8, pan: u64, number: u64) -> Address
     ensures { λ r. ⌜ r ≡ addressOf mode pan number ⌝ }
 {
     if mode == 0 {
-        return Address {
-            mode: 0,
-            pan: 0,
-            address: 0,
-        };
+        return modes::absent();
     }
     Address {
         mode: mode,
