@@ -2,6 +2,7 @@
 ghost use mathlib.Core.Path.{_≡_};
 ghost use Prim.Native.Nat.{_+_, _*_, _^_, _≤_};
 ghost use lib.ListN.{length, getD};
+ghost use lib.Dec.{leb};
 ghost use lib.Seq.{sets};
 ghost use Rattle.meaning.specs.Octets.{leAt, octs, same};
 
@@ -37,11 +38,48 @@ fn join64(a: u32, b: u32) -> u64
     a as u64 + 4294967296 * (b as u64)
 }
 
+// The number in two octets that stand in the slice: no octet's place is tested.
+pub fn whole16(s: &[u8], at: usize) -> u16
+    requires { ⌜ at + 2 ≤ length (now s) ⌝ }
+    ensures { λ r. ⌜ r ≡ leAt 2 (now (s .entry)) at ⌝ }
+{
+    join16(s[at], s[at + 1])
+}
+
+// The number in four octets that stand in the slice.
+pub fn whole32(s: &[u8], at: usize) -> u32
+    requires { ⌜ at + 4 ≤ length (now s) ⌝ }
+    ensures { λ r. ⌜ r ≡ leAt 4 (now (s .entry)) at ⌝ }
+{
+    join32(whole16(s, at), whole16(s, at + 2))
+}
+
+// The number in eight octets that stand in the slice.
+pub fn whole64(s: &[u8], at: usize) -> u64
+    requires { ⌜ at + 8 ≤ length (now s) ⌝ }
+    ensures { λ r. ⌜ r ≡ leAt 8 (now (s .entry)) at ⌝ }
+{
+    join64(whole32(s, at), whole32(s, at + 4))
+}
+
+// There are n octets from a place on.
+fn has(s: &[u8], at: usize, n: usize) -> bool
+    ensures { λ r. ⌜ r ≡ leb (at + n) (length (now (s .entry))) ⌝ }
+{
+    if n <= s.len() {
+        return at <= s.len() - n;
+    }
+    false
+}
+
 // The number in two octets from a place on, least first.
 pub fn number16(s: &[u8], at: usize) -> u16
     requires { ⌜ at + 2 ≤ 2 ^ 64 ⌝ }
     ensures { λ r. ⌜ r ≡ leAt 2 (now (s .entry)) at ⌝ }
 {
+    if has(s, at, 2) {
+        return whole16(s, at);
+    }
     join16(octet(s, at), octet(s, at + 1))
 }
 
@@ -50,6 +88,9 @@ pub fn number32(s: &[u8], at: usize) -> u32
     requires { ⌜ at + 4 ≤ 2 ^ 64 ⌝ }
     ensures { λ r. ⌜ r ≡ leAt 4 (now (s .entry)) at ⌝ }
 {
+    if has(s, at, 4) {
+        return whole32(s, at);
+    }
     join32(number16(s, at), number16(s, at + 2))
 }
 
@@ -58,6 +99,9 @@ pub fn number64(s: &[u8], at: usize) -> u64
     requires { ⌜ at + 8 ≤ 2 ^ 64 ⌝ }
     ensures { λ r. ⌜ r ≡ leAt 8 (now (s .entry)) at ⌝ }
 {
+    if has(s, at, 8) {
+        return whole64(s, at);
+    }
     join64(number32(s, at), number32(s, at + 4))
 }
 

@@ -49,6 +49,10 @@ pub ruleset sides =
     (not-on, not-off, eq-eqb, ne-eqb, lt-ltb, le-ltb, le-leb, lt-leb, eq-last, lt-last, eq-ends, ge-by, lt-by, eq-right, ne-right, le-both, gt-both)
 
 -- ---- the table of contents
+-- an arm of a function of kinds
+pub of-kind : (f : ℕ → ℕ) (n k v : ℕ) → k ≡ n → v ≡ f n → v ≡ f k
+of-kind f n k v e d = rw e d
+
 pub start-more : (s : List ℕ) (k a u : ℕ) → a ≡ startOf s k → u ≡ widthOf k * countOf s k → a + u ≡ startOf s (k + 1)
 unfolding startOf
 start-more s k a u d e = rw (add-one, d, e)
