@@ -38,7 +38,7 @@ use Rattle.meaning.specs.declared.Judged.{Judged}
 use Rattle.meaning.specs.declared.Judged.the-variants.{Refused, Plain, Secure}
 use Rattle.meaning.specs.declared.Received.{Received}
 use Rattle.meaning.proofs.Tests.{and-right}
-use Rattle.meaning.proofs.Lengths.{no-tag}
+use Rattle.meaning.proofs.Lengths.{no-tag, bounded}
 use Rattle.meaning.proofs.Stores.{sets-beside, take-beside}
 use Rattle.meaning.proofs.Ccm.{length-text}
 use Rattle.meaning.proofs.Sites.{rule-limit, rule-lookups, rule-handles, device-of, counter-of}
@@ -57,6 +57,13 @@ pub by-report : (b : List ℕ) (c : Cuts) (hs xs : List ℕ) (h : Header) (l m k
 unfolding report privateLen openEnd
 by-report b c hs xs h l m k tag device e a g i j n o q =
     rw (q, o, n, j, i, g, a, e, header-is b, view-aux b, view-cuts b, view-size b)
+
+-- where the open payload starts and ends is a machine number
+pub start-fits : (b : List ℕ) (c : Cuts) → c ≡ cutsOf b → Fits64 w64 (c .head + c .aux)
+start-fits b c e = let q = bounded _ _ e in omega arith
+
+pub end-fits : (b : List ℕ) (c : Cuts) → c ≡ cutsOf b → Fits64 w64 (c .head + c .aux + c .opens)
+end-fits b c e = let q = bounded _ _ e in omega arith
 
 -- the parts end in the body, and so does the tag after them
 pub ends-in : (b : List ℕ) (c : Cuts) → c ≡ cutsOf b → openEnd (cutsOf b) + tagLen (levelOf (view b .aux)) ≤ length b

@@ -66,11 +66,11 @@ fn key_mode(level: u8, mode: u8) -> u8
 }
 
 // The answer to a frame without FCS whose parts fit it.
-fn accepted(body: &[u8], device: usize) -> Received
+fn accepted(body: &[u8], c: Cuts, device: usize) -> Received
+    requires { ⌜ c ≡ cutsOf (now body) ⌝ }
     requires { ⌜ openEnd (cutsOf (now body)) + tagLen (levelOf (view (now body) .aux)) ≤ length (now body) ⌝ }
     ensures { λ r. ⌜ r ≡ report (view (now (body .entry))) (levelOf (view (now (body .entry)) .aux)) device ⌝ }
 {
-    let c = frame::cuts(body);
     let start = c.head + c.aux;
     let aux = frame::part_of(body, c.head, c.aux);
     let level = frame::level_of(aux);
@@ -97,26 +97,30 @@ fn accept_plain(frame: &[u8], out: &mut [u8]) -> Received
     let c = frame::cuts(body);
     let open = c.head + c.aux + c.opens;
     octets::copy_in(out, 0, frame::part_of(body, open, body.len() - open));
-    accepted(body, 0)
+    accepted(body, c, 0)
 }
 
 // The frame counter of a frame without FCS.
-fn counter_in(body: &[u8]) -> u32
+fn counter_in(body: &[u8], c: Cuts) -> u32
+    requires { ⌜ c ≡ cutsOf (now body) ⌝ }
     ensures { λ r. ⌜ r ≡ counterOf (view (now (body .entry)) .aux) ⌝ }
 {
-    let c = frame::cuts(body);
     frame::counter_of(frame::part_of(body, c.head, c.aux))
 }
 
 // The nonce of a frame without FCS: the device record's extended address, the frame's counter and level.
-fn nonce_of(site: &[u8], body: &[u8], device: usize) -> [u8; 13]
+fn nonce_of(site: &[u8], body: &[u8], c: Cuts, device: usize) -> [u8; 13]
+    requires { ⌜ c ≡ cutsOf (now body) ⌝ }
     requires { ⌜ siteRule (now site) ≡ true ⌝ }
     requires { ⌜ device < countOf (now site) 1 ⌝ }
     ensures { λ r. ⌜ r ≡ nonceIn (now (site .entry)) (now (body .entry)) device ⌝ }
 {
-    let c = frame::cuts(body);
     let level = frame::level_in(body, c);
-    ccm::nonce(site::device_extended(site, device), counter_in(body), level)
+    ccm::nonce(
+        site::device_extended(site, device),
+        counter_in(body, c),
+        level,
+    )
 }
 
 // Opens a frame without FCS under a key's schedule and a nonce, into the scratch; nothing else that is lent changes.
@@ -125,15 +129,16 @@ fn open_with(
     w: &Schedule,
     nonce: [u8; 13],
     body: &[u8],
+    c: Cuts,
     scratch: &mut [u8],
 ) -> bool
+    requires { ⌜ c ≡ cutsOf (now body) ⌝ }
     requires { ⌜ IsSbox (now sbox) ⌝ }
     requires { ⌜ openEnd (cutsOf (now body)) + tagLen (levelOf (view (now body) .aux)) ≤ length (now body) ⌝ }
     requires { ⌜ length (now body) ≤ 125 ⌝ }
     requires { ⌜ 125 ≤ length (now scratch) ⌝ }
     ensures { λ r. ⌜ OpenedWith (cipherBy (now (w .entry))) nonce (now (body .entry)) (now (scratch .entry)) r (now (scratch .exit)) ⌝ }
 {
-    let c = frame::cuts(body);
     let opens = c.head + c.aux + c.opens;
     let level = frame::level_in(body, c);
     let private = body.len() - opens - modes::tag_len(level);
@@ -145,10 +150,12 @@ fn unsecure(
     sbox: &[u8; 256],
     site: &[u8],
     body: &[u8],
+    c: Cuts,
     key: usize,
     device: usize,
     scratch: &mut [u8],
 ) -> bool
+    requires { ⌜ c ≡ cutsOf (now body) ⌝ }
     requires { ⌜ IsSbox (now sbox) ⌝ }
     requires { ⌜ siteRule (now site) ≡ true ⌝ }
     requires { ⌜ key < countOf (now site) 3 ⌝ }
@@ -160,18 +167,20 @@ fn unsecure(
 {
     let octets = site::key_of(site, key);
     let w = aes::schedule(sbox, &octets);
-    open_with(sbox, &w, nonce_of(site, body, device), body, scratch)
+    open_with(sbox, &w, nonce_of(site, body, c, device), body, c, scratch)
 }
 
 // The only place where a secured frame changes anything: the output's front, and the device's counter.
 fn commit(
     site: &mut [u8],
     body: &[u8],
+    c: Cuts,
     out: &mut [u8],
     scratch: &[u8],
     device: usize,
     counter: u32,
 ) -> Received
+    requires { ⌜ c ≡ cutsOf (now body) ⌝ }
     requires { ⌜ siteRule (now site) ≡ true ⌝ }
     requires { ⌜ device < countOf (now site) 1 ⌝ }
     requires { ⌜ counter < 4294967295 ⌝ }
@@ -179,7 +188,7 @@ fn commit(
     requires { ⌜ length (now body) ≤ length (now out) ⌝ }
     ensures { λ r. ⌜ outcome r (now (site .exit)) (now (out .exit)) ≡ committed (now (site .entry)) (now (body .entry)) (now (out .entry)) (now (scratch .entry)) device counter ⌝ }
 {
-    let answer = accepted(body, device + 1);
+    let answer = accepted(body, c, device + 1);
     octets::copy_in(out, 0, frame::part_of(scratch, 0, answer.private));
     site::raise_device(site, device, counter);
     answer
@@ -190,12 +199,14 @@ fn unlock(
     sbox: &[u8; 256],
     site: &mut [u8],
     body: &[u8],
+    c: Cuts,
     out: &mut [u8],
     scratch: &mut [u8],
     key: usize,
     device: usize,
     counter: u32,
 ) -> Received
+    requires { ⌜ c ≡ cutsOf (now body) ⌝ }
     requires { ⌜ IsSbox (now sbox) ⌝ }
     requires { ⌜ siteRule (now site) ≡ true ⌝ }
     requires { ⌜ key < countOf (now site) 3 ⌝ }
@@ -207,8 +218,8 @@ fn unlock(
     requires { ⌜ 125 ≤ length (now out) ⌝ }
     ensures { λ r. ⌜ outcome r (now (site .exit)) (now (out .exit)) ≡ unlocked (now (site .entry)) (now (body .entry)) (now (out .entry)) key device counter ⌝ }
 {
-    if unsecure(sbox, &site[..], body, key, device, scratch) {
-        return commit(site, body, out, &scratch[..], device, counter);
+    if unsecure(sbox, &site[..], body, c, key, device, scratch) {
+        return commit(site, body, c, out, &scratch[..], device, counter);
     }
     refused(Refusal::SecurityError)
 }
@@ -231,7 +242,8 @@ fn settle(
     ensures { λ r. ⌜ outcome r (now (site .exit)) (now (out .exit)) ≡ settled (now (site .entry)) (now (frame .entry)) (now (out .entry)) (Judged.Secure key handle device) ⌝ }
 {
     let body = body_of(frame);
-    let counter = counter_in(body);
+    let c = frame::cuts(body);
+    let counter = counter_in(body, c);
     if counter == 0xffff_ffff {
         return refused(Refusal::CounterError);
     }
@@ -239,7 +251,7 @@ fn settle(
         return refused(Refusal::CounterError);
     }
     let mut scratch = [0u8; 127];
-    unlock(sbox, site, body, out, &mut scratch, key, device, counter)
+    unlock(sbox, site, body, c, out, &mut scratch, key, device, counter)
 }
 
 // Receives a frame on a site that holds its rules, with the two tables lent: the answer, and what the site and the output then hold.

@@ -1,16 +1,11 @@
 -- The answer to a frame whose parts fit it: field by field, by `by-report`. Assumes nothing.
 use borrow.Author.Needs.{needs}
-use native.Mathlib.Omega.{arith}
-use Rattle.meaning.proofs.Lengths.{bounded}
-use Rattle.receiver.proofs.Commits.{by-report, ends-in, tag-in}
+use Rattle.receiver.proofs.Commits.{by-report, start-fits, end-fits, ends-in, tag-in}
 use Rattle.receiver.proofs.accepted.Statement.{statement}
 use Rattle.receiver.proofs.accepted.Tie as tie
 
-cuts-requires : tie.Need-cuts-requires
-cuts-requires c κs = search needs
-
 add-start : tie.Need-add-start
-add-start c = let q = bounded _ _ (c .before .cuts .ensures) in omega arith
+add-start c = search start-fits
 
 part-of-requires : tie.Need-part-of-requires
 part-of-requires c κs = search needs
@@ -31,7 +26,7 @@ key-mode-requires : tie.Need-key-mode-requires
 key-mode-requires c κs = search needs
 
 add-t12 : tie.Need-add-t12
-add-t12 c = let q = bounded _ _ (c .before .before .before .before .before .before .before .before .cuts .ensures) in omega arith
+add-t12 c = search end-fits
 
 sub-t13 : tie.Need-sub-t13
 sub-t13 c = search ends-in
@@ -49,7 +44,6 @@ pub accepted-spec : {M : Type 1} → statement M
 accepted-spec =
     tie.close
     (tie.spec
-    cuts-requires
     add-start
     part-of-requires
     level-of-requires

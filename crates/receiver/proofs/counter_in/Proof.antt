@@ -4,9 +4,6 @@ use Rattle.receiver.proofs.Commits.{by-counter}
 use Rattle.receiver.proofs.counter_in.Statement.{statement}
 use Rattle.receiver.proofs.counter_in.Tie as tie
 
-cuts-requires : tie.Need-cuts-requires
-cuts-requires c κs = search needs
-
 part-of-requires : tie.Need-part-of-requires
 part-of-requires c κs = search needs
 
@@ -17,4 +14,4 @@ returns : tie.Need-returns
 returns c = search by-counter
 
 pub counter-in-spec : {M : Type 1} → statement M
-counter-in-spec = tie.close (tie.spec cuts-requires part-of-requires counter-of-requires returns)
+counter-in-spec = tie.close (tie.spec part-of-requires counter-of-requires returns)

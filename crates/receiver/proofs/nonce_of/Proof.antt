@@ -4,9 +4,6 @@ use borrow.Author.Needs.{needs}
 use Rattle.receiver.proofs.nonce_of.Statement.{statement}
 use Rattle.receiver.proofs.nonce_of.Tie as tie
 
-cuts-requires : tie.Need-cuts-requires
-cuts-requires c κs = search needs
-
 level-in-requires : tie.Need-level-in-requires
 level-in-requires c κs = search needs
 
@@ -26,7 +23,6 @@ pub nonce-of-spec : {M : Type 1} → statement M
 nonce-of-spec =
     tie.close
     (tie.spec
-    cuts-requires
     level-in-requires
     device-extended-requires
     counter-in-requires

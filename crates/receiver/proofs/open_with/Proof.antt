@@ -1,20 +1,15 @@
 -- Opening by a schedule and a nonce: the parts that are lent are the frame's, by `by-opening`. Assumes nothing.
-use native.Mathlib.Omega.{arith}
-use Rattle.meaning.proofs.Lengths.{bounded}
-use Rattle.receiver.proofs.Commits.{ends-in}
+use Rattle.receiver.proofs.Commits.{start-fits, end-fits, ends-in}
 use Rattle.receiver.proofs.Openings.{tag-fits, parts-add, body-small, private-in, by-opening}
 use borrow.Author.Needs.{needs}
 use Rattle.receiver.proofs.open_with.Statement.{statement}
 use Rattle.receiver.proofs.open_with.Tie as tie
 
-cuts-requires : tie.Need-cuts-requires
-cuts-requires c κs = search needs
-
 add-opens : tie.Need-add-opens
-add-opens c = let q = bounded _ _ (c .before .cuts .ensures) in omega arith
+add-opens c = search start-fits
 
 add-opens-2 : tie.Need-add-opens-2
-add-opens-2 c = let q = bounded _ _ (c .before .before .cuts .ensures) in omega arith
+add-opens-2 c = search end-fits
 
 level-in-requires : tie.Need-level-in-requires
 level-in-requires c κs = search needs
@@ -41,7 +36,6 @@ pub open-with-spec : {M : Type 1} → statement M
 open-with-spec =
     tie.close
     (tie.spec
-    cuts-requires
     add-opens
     add-opens-2
     level-in-requires

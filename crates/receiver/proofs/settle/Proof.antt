@@ -7,6 +7,9 @@ use Rattle.receiver.proofs.settle.Tie as tie
 body-of-requires : tie.Need-body-of-requires
 body-of-requires c κs = search needs
 
+cuts-requires : tie.Need-cuts-requires
+cuts-requires c κs = search needs
+
 counter-in-requires : tie.Need-counter-in-requires
 counter-in-requires c κs = search needs
 
@@ -26,7 +29,8 @@ same-length : tie.Need-same-length
 same-length c = search needs
 
 returns-2 : tie.Need-returns-2
-returns-2 c = search low-counter depth 9
+returns-2 c =
+    low-counter _ _ _ _ _ _ _ _ _ _ (c .before .before .before .before .before .before .before .before .before .before .before .pre .1 .1 .1 .0) (c .before .before .before .before .before .before .before .body-of .ensures) (c .before .before .before .before .before .counter-in .ensures) (c .before .before .device-counter .ensures) (c .before .if2 .taken) (c .refused2 .ensures)
 
 slice-aggregate-unlock : tie.Need-slice-aggregate-unlock
 slice-aggregate-unlock c = search needs
@@ -41,8 +45,8 @@ unlock-requires c κs = (
       (
         search needs,
         (
-          search counter-below,
-          (search plain-body, (search inner-short, (search needs, search room-long))),
+          search needs,
+          (search counter-below, (search plain-body, (search inner-short, (search needs, search room-long)))),
         ),
       ),
     ),
@@ -57,7 +61,7 @@ same-length-3 c = search needs
 
 returns-3 : tie.Need-returns-3
 returns-3 c =
-    by-counted _ _ _ _ _ _ _ _ _ _ (c .before .before .before .before .before .before .before .before .before .before .before .before .before .before .before .before .before .before .pre .1 .1 .1 .0) (c .before .before .before .before .before .before .before .before .before .before .before .before .before .before .body-of .ensures) (c .before .before .before .before .before .before .before .before .before .before .before .before .before .counter-in .ensures) (c .before .before .before .before .before .before .before .before .before .before .before .before .if1 .left)
+    by-counted _ _ _ _ _ _ _ _ _ _ (c .before .before .before .before .before .before .before .before .before .before .before .before .before .before .before .before .before .before .before .pre .1 .1 .1 .0) (c .before .before .before .before .before .before .before .before .before .before .before .before .before .before .before .body-of .ensures) (c .before .before .before .before .before .before .before .before .before .before .before .before .before .counter-in .ensures) (c .before .before .before .before .before .before .before .before .before .before .before .before .if1 .left)
     (c .before .before .before .before .before .before .before .before .before .before .device-counter .ensures) (c .before .before .before .before .before .before .before .before .before .if2 .left) (c .before .before .before .before .before .unlock .ensures)
 
 pub settle-spec : {M : Type 1} → statement M
@@ -65,6 +69,7 @@ settle-spec =
     tie.close
     (tie.spec
     body-of-requires
+    cuts-requires
     counter-in-requires
     refused-requires
     returns

@@ -21,7 +21,7 @@ same-length-3 c = search needs
 
 returns : tie.Need-returns
 returns c =
-    is-right _ _ _ _ _ _ _ _ _ (c .before .before .before .before .before .before .before .before .before .before .before .unsecure .ensures) _ (c .before .before .before .before .before .before .before .before .before .before .before .before .before .before .before .before .before .before .pre .1 .1 .1 .1 .1 .0) (c .before .before .before .before .before .before .before .before .if1 .taken) (c .before .before .before .before .commit .ensures)
+    is-right _ _ _ _ _ _ _ _ _ (c .before .before .before .before .before .before .before .before .before .before .before .unsecure .ensures) _ (c .before .before .before .before .before .before .before .before .before .before .before .before .before .before .before .before .before .before .pre .1 .1 .1 .1 .1 .1 .0) (c .before .before .before .before .before .before .before .before .if1 .taken) (c .before .before .before .before .commit .ensures)
 
 refused-requires : tie.Need-refused-requires
 refused-requires c κs = search needs
