@@ -1,9 +1,10 @@
 // Octets of a slice as numbers, and back; copying; comparing. Reading past the end gives 0, as the definitions say.
 ghost use mathlib.Core.Path.{_≡_};
-ghost use Prim.Native.Nat.{_+_, _*_, _^_, _≤_};
+ghost use Prim.Native.Nat.{_+_, _*_, _^_, _≤_, _<_};
 ghost use lib.ListN.{length, getD};
 ghost use lib.Seq.{sets};
-ghost use Rattle.meaning.specs.Octets.{leAt, octs, same};
+ghost use lib.Dec.{eqb};
+ghost use Rattle.meaning.specs.Octets.{leAt, octs, same, every};
 
 // The octet at a place, 0 past the end.
 pub fn octet(s: &[u8], at: usize) -> u8
@@ -114,4 +115,19 @@ pub fn equal(a: &[u8], b: &[u8]) -> bool
         return differ == 0;
     }
     false
+}
+
+// The n octets of b from a place on are the first n of a.
+pub fn same_from(a: &[u8], b: &[u8], at: usize, n: usize) -> bool
+    requires { ⌜ at + n < 2 ^ 32 ⌝ }
+    ensures { λ r. ⌜ r ≡ every (λ k. eqb (getD (now (a .entry)) k 0) (getD (now (b .entry)) (at + k) 0)) n ⌝ }
+{
+    let mut i: usize = 0;
+    while i < n {
+        if octet(a, i) != octet(b, at + i) {
+            return false;
+        }
+        i += 1;
+    }
+    true
 }

@@ -14,16 +14,13 @@ use Rattle.meaning.specs.Octets.{leAt, octs, every}
 use Rattle.meaning.specs.Site.{widthOf, countOf, placeOf, startOf, entryRight, contentsRight, body, deviceAt, clash, distinct, siteRule, storeOf, keyAt}
 use Rattle.meaning.specs.Receive.{raise, raisedIn}
 use Rattle.meaning.specs.Build.{ownRaised}
-use Rattle.meaning.proofs.Tests.{not-on, not-off, eq-last}
+use Rattle.meaning.proofs.Tests.{not-on, not-off, eq-last, lt-last}
 use Rattle.meaning.proofs.Scan.{Kept, every-end}
 use Rattle.meaning.proofs.Stores.{sets-whole}
 use Rattle.meaning.proofs.Sites.{contents-inside, length-part, length-body, rule-first}
 use Rattle.site.specs.Rules.{recordRight, kindRight, clashBy}
 
 -- ---- comparisons: as they stand, and with callees' results, where u says a and v says b
-pub lt-last : (a b u : ℕ) → u ≡ a → ltb u b ≡ ltb a b
-lt-last a b u d = rw d
-
 pub eq-ends : (a b u v : ℕ) → u ≡ a → v ≡ b → eqb u v ≡ eqb a b
 eq-ends a b u v d e = rw (d, e)
 
