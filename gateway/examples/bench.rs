@@ -1,8 +1,9 @@
 //! The archive and the log program beside the second implementation, in one
 //! run.
 //!
-//! - `cargo run --release --example bench`: frames per second, and the ratio.
-//!   Times say something only where x86-64 runs without an emulator.
+//! - `cargo run --release --example bench`: frames per second, and the ratio
+//!   (`tools/bench` runs it with an archive for the machine at hand). The log
+//!   program is for x86-64, and its rows are timed there alone.
 //! - `... bench rows`: the titles of the rows.
 //! - `... bench calls ROW ours|second COUNT`: so many calls of a row alone,
 //!   and `... bench input ROW COUNT`: the input of a row of the log with so
@@ -231,7 +232,9 @@ fn time_all() {
         let (ours, second) = (rate(&mut row.ours, 100), rate(&mut row.second, 100));
         line(&row.title, row.frames, ours, second);
     }
-    time_logs();
+    if cfg!(target_arch = "x86_64") {
+        time_logs();
+    }
 }
 
 /// So many calls of one side of a row.

@@ -1,11 +1,11 @@
-// The key expansion (FIPS 197, 5.2), octet by octet.
+// The key expansion (FIPS 197, 5.2), word by word.
 use crate::sbox::sub;
 ghost use mathlib.Core.Path.{_≡_};
-ghost use Prim.Native.Nat.{_≤_, _<_};
+ghost use Prim.Native.Nat.{_+_, _*_, _<_};
 ghost use lib.ListN.{length, take};
 ghost use Rattle.meaning.specs.Sbox.{IsSbox};
-ghost use Rattle.meaning.specs.Cipher.{power, keyOctet};
-ghost use Rattle.aes.specs.Schedule.{scheduled};
+ghost use Rattle.meaning.specs.Cipher.{power};
+ghost use Rattle.aes.specs.Schedule.{scheduled, grown};
 
 // What a key is expanded to.
 pub type Schedule = [u8; 176];
@@ -21,21 +21,29 @@ fn rcon(n: usize) -> u8
     RCON[n]
 }
 
-// Octet i of the schedule, of which the octets before are there.
-fn key_octet(t: &[u8; 256], w: &Schedule, i: usize) -> u8
+// The first word of round key n + 1, where those before are there: by the word before, rotated and put through the S-box.
+fn first_word(t: &[u8; 256], w: &mut Schedule, n: usize)
     requires { ⌜ IsSbox (now t) ⌝ }
-    requires { ⌜ (16 ≤ i) × (i < 176) ⌝ }
-    ensures { λ r. ⌜ r ≡ keyOctet (now (w .entry)) i ⌝ }
+    requires { ⌜ n < 10 ⌝ }
+    ensures { λ _. ⌜ now (w .exit) ≡ grown (now (w .entry)) (16 * n + 16) 4 ⌝ }
 {
-    if i % 16 < 4 {
-        let x = sub(t, w[4 * (i / 4 - 1) + (i % 4 + 1) % 4]);
-        if i % 16 == 0 {
-            w[i - 16] ^ (x ^ rcon(i / 16 - 1))
-        } else {
-            w[i - 16] ^ x
-        }
-    } else {
-        w[i - 16] ^ w[i - 4]
+    let i = 16 * n + 16;
+    w[i] = w[i - 16] ^ (sub(t, w[i - 3]) ^ rcon(n));
+    w[i + 1] = w[i - 15] ^ sub(t, w[i - 2]);
+    w[i + 2] = w[i - 14] ^ sub(t, w[i - 1]);
+    w[i + 3] = w[i - 13] ^ sub(t, w[i - 4]);
+}
+
+// The other three words of round key n + 1: each octet by the one four places before.
+fn other_words(w: &mut Schedule, n: usize)
+    requires { ⌜ n < 10 ⌝ }
+    ensures { λ _. ⌜ now (w .exit) ≡ grown (now (w .entry)) (16 * n + 20) 12 ⌝ }
+{
+    let i = 16 * n + 20;
+    let mut j: usize = 0;
+    while j < 12 {
+        w[i + j] = w[i + j - 16] ^ w[i + j - 4];
+        j += 1;
     }
 }
 
@@ -60,11 +68,11 @@ pub fn schedule(t: &[u8; 256], key: &[u8]) -> Schedule
     ensures { λ r. ⌜ r ≡ scheduled (now (key .entry)) ⌝ }
 {
     let mut w = begin(key);
-    let mut i: usize = 16;
-    while i < 176 {
-        let v = key_octet(t, &w, i);
-        w[i] = v;
-        i += 1;
+    let mut n: usize = 0;
+    while n < 10 {
+        first_word(t, &mut w, n);
+        other_words(&mut w, n);
+        n += 1;
     }
     w
 }

@@ -1,5 +1,4 @@
--- `log::answer` meets its contract.
--- Assumes nothing.
+-- `log::answer` meets its contract: by the verdict on the site. Assumes nothing.
 use mathlib.Core.Path.{sym, _∙_}
 use Rattle.log.proofs.Replies.{answered-valid, answered-broken}
 use borrow.Author.Needs.{needs}

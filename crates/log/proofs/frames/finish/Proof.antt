@@ -1,5 +1,4 @@
--- `log::finish` meets its contract.
--- Assumes nothing.
+-- `log::finish` meets its contract: by whether octets are left. Assumes nothing.
 use mathlib.Core.Path.{_∙_}
 use native.Mathlib.Omega.{arith}
 use borrow.Author.Tests.{lt-ltb, le-ltb}

@@ -1,5 +1,4 @@
--- `log::next_end` meets its contract.
--- Assumes nothing.
+-- `log::next_end` meets its contract: each return by the tests on its way. Assumes nothing.
 use Rattle.meaning.proofs.Tests.{tests}
 use Rattle.log.proofs.Batches.{next-on, next-off}
 use Rattle.log.specs.Buffers.{nextEnd, endOf}

@@ -1,5 +1,4 @@
--- `log::step` meets its contract.
--- Assumes nothing.
+-- `log::step` meets its contract: the line is of the answer, whose status has a name. Assumes nothing.
 use native.Mathlib.Omega.{arith}
 use Rattle.meaning.proofs.Kept.{received-keeps}
 use borrow.Author.Needs.{needs}

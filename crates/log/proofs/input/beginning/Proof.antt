@@ -1,5 +1,4 @@
--- `log::beginning` meets its contract.
--- Assumes nothing.
+-- `log::beginning` meets its contract: each return by the tests on its way. Assumes nothing.
 use Rattle.log.proofs.Openings.{opening-empty, opening-long, opening-short, opening-site}
 use borrow.Author.Needs.{needs}
 use Rattle.log.proofs.input.beginning.Statement.{statement}

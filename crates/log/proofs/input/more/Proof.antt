@@ -1,5 +1,4 @@
--- `log::more` meets its contract.
--- Assumes nothing.
+-- `log::more` meets its contract: the buffer stays, or `refill` moves it on. Assumes nothing.
 use Rattle.log.proofs.Hands.{same-place}
 use borrow.Author.Needs.{needs}
 use Rattle.log.proofs.input.more.Statement.{statement}

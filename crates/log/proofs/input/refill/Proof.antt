@@ -1,5 +1,4 @@
--- `log::refill` meets its contract.
--- Assumes nothing.
+-- `log::refill` meets its contract: octets below i are moved, and those read stand behind them all. Assumes nothing.
 use borrow.Author.Needs.{needs}
 use native.Mathlib.Omega.{arith}
 use mathlib.Core.Path.{_≡_, _∙_}
