@@ -48,9 +48,9 @@ pub fn device_at(devices: &[u8], d: usize) -> Device
 {
     let at = 17 * d;
     Device {
-        pan: octets::number16(devices, at),
-        short: octets::number16(devices, at + 2),
-        extended: octets::number64(devices, at + 4),
+        pan: octets::whole16(devices, at),
+        short: octets::whole16(devices, at + 2),
+        extended: octets::whole64(devices, at + 4),
         exempt: devices[at + 16],
     }
 }

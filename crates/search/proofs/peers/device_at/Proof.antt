@@ -6,7 +6,7 @@ use Rattle.search.proofs.peers.device_at.Tie as tie
 
 returns : tie.Need-returns
 unfolding deviceAt
-returns c = rw (c .before .before .before .number16 .ensures, c .before .before .number162 .ensures, c .before .number64 .ensures)
+returns c = rw (c .before .before .before .whole16 .ensures, c .before .before .whole162 .ensures, c .before .whole64 .ensures)
 
 pub device-at-spec : {M : Type 1} → statement M
 device-at-spec =
