@@ -1,5 +1,4 @@
 pub mod Products
-pub mod Sixteen
 pub mod Words
 pub mod States
 pub mod Turns

@@ -13,8 +13,7 @@ use Rattle.meaning.specs.Cipher.{subBytes, shiftRows, mixColumns, addRoundKey, 
 use Rattle.meaning.proofs.Numbers.{length-octs}
 use Rattle.meaning.proofs.Tabs.{tab-of}
 use Rattle.aes.specs.Words.{subColumn, mixColumn}
-use Rattle.aes.proofs.Sixteen.{four}
-use Rattle.aes.proofs.Words.{octet-xor}
+use Rattle.aes.proofs.Words.{four, octet-xor}
 
 -- the octets of four words
 abbrev pub octets : ℕ → ℕ → ℕ → ℕ → List ℕ
@@ -39,15 +38,15 @@ part-more : (s : List ℕ) (at m n k : ℕ) → at + m ≡ k → part at (m + n)
 part-more s at m n k e =
     take-add m n (drop at s) ∙ ap (λ (l : List ℕ). take m (drop at s) ++ take n l) (drop-drop m at s ∙ ap (λ (j : ℕ). drop j s) e)
 
-pub four-words : (s : List ℕ) (at a b c d : ℕ) → octs 4 a ≡ part at 4 s → octs 4 b ≡ part (at + 4) 4 s → octs 4 c ≡ part (at + 8) 4 s
+four-words : (s : List ℕ) (at a b c d : ℕ) → octs 4 a ≡ part at 4 s → octs 4 b ≡ part (at + 4) 4 s → octs 4 c ≡ part (at + 8) 4 s
     → octs 4 d ≡ part (at + 12) 4 s → octets a b c d ≡ part at 16 s
 four-words s at a b c d e f g h =
     columns e f g h
     ∙ sym
-      (part-more s at 4 12 (at + 4) refl
-      ∙ ap (λ (l : List ℕ). part at 4 s ++ l)
-        (part-more s (at + 4) 4 8 (at + 8) (omega arith)
-        ∙ ap (λ (l : List ℕ). part (at + 4) 4 s ++ l) (part-more s (at + 8) 4 4 (at + 12) (omega arith))))
+    (part-more s at 4 12 (at + 4) refl
+    ∙ ap (λ (l : List ℕ). part at 4 s ++ l)
+    (part-more s (at + 4) 4 8 (at + 8) (omega arith)
+    ∙ ap (λ (l : List ℕ). part (at + 4) 4 s ++ l) (part-more s (at + 8) 4 4 (at + 12) (omega arith))))
 
 pub loaded : (s : List ℕ) (a b c d : ℕ) → length s ≡ 16 → octs 4 a ≡ part 0 4 s → octs 4 b ≡ part 4 4 s → octs 4 c ≡ part 8 4 s
     → octs 4 d ≡ part 12 4 s → octets a b c d ≡ s

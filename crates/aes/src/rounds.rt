@@ -74,7 +74,12 @@ fn sub_and_shift(t: &[u8; 256], s: Columns) -> Columns
 fn mix_columns(s: Columns) -> Columns
     ensures { λ r. ⌜ stateOf r ≡ mixColumns (stateOf s) ⌝ }
 {
-    Columns { a: mix(s.a), b: mix(s.b), c: mix(s.c), d: mix(s.d) }
+    Columns {
+        a: mix(s.a),
+        b: mix(s.b),
+        c: mix(s.c),
+        d: mix(s.d),
+    }
 }
 
 // A state plus the round key n.

@@ -35,13 +35,11 @@ fn double_each(x: u32) -> u32
     ((x & 0x7f7f7f7f) * 2) ^ (((x / 128) & 0x01010101) * 0x1b)
 }
 
-// A column times the matrix of MixColumns.
+// A column times the matrix of MixColumns: in each row a + b is doubled, then b, c and d are added.
 pub fn mix(x: u32) -> u32
     ensures { λ r. ⌜ octs 4 r ≡ mixColumn (octs 4 x) ⌝ }
 {
-    let y = double_each(x);
-    let t = turn(x);
-    let u = turn(t);
-    let v = turn(u);
-    y ^ (t ^ turn(y)) ^ u ^ v
+    let next = turn(x);
+    let sum = x ^ next;
+    double_each(sum) ^ next ^ turn(turn(sum))
 }

@@ -1,16 +1,15 @@
 -- `aes::sub_column` meets its contract: four octets, each by what `sub` ensures. Assumes nothing.
-use mathlib.Core.Path.{_≡_, sym, ap, _∙_}
-use Prim.Native.Nat.{ℕ, _/_, _%_}
 use borrow.Author.Needs.{needs}
-use native.Mathlib.Omega.{arith}
 use Rattle.aes.proofs.States.{subbed}
 use Rattle.aes.proofs.rounds.sub_column.Statement.{statement}
 use Rattle.aes.proofs.rounds.sub_column.Tie as tie
 
 returns : tie.Need-returns
 returns c =
-    subbed _ _ _ (c .before .before .before .before .before .args .d) _ (c .before .before .before .before .before .fits .d .fits) (c .join .ensures)
-    (c .before .before .before .before .sub .ensures) (c .before .before .before .sub2 .ensures) (c .before .before .sub3 .ensures) (c .before .sub4 .ensures)
+    let d = c .before in
+    let b = d .before .before in
+    let a = b .before .before in
+    subbed _ _ _ (a .args .d) _ (a .fits .d .fits) (c .join .ensures) (b .before .sub .ensures) (b .sub2 .ensures) (d .before .sub3 .ensures) (d .sub4 .ensures)
 
 pub sub-column-spec : {M : Type 1} → statement M
 sub-column-spec =

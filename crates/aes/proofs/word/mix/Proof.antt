@@ -1,4 +1,4 @@
--- `aes::mix` meets its contract: {02} doubles, {03} doubles and adds, and a turn brings the octets of the other rows. Assumes nothing.
+-- `aes::mix` meets its contract: doubling is linear, and a turn brings the octets of the other rows. Assumes nothing.
 use borrow.Author.Needs.{needs}
 use Rattle.aes.proofs.Words.{mix-word}
 use Rattle.aes.proofs.word.mix.Statement.{statement}
@@ -10,4 +10,4 @@ returns c = search mix-word
 pub mix-spec : {M : Type 1} → statement M
 mix-spec =
     tie.close
-    (tie.spec (λ c κs. search needs) (λ c κs. search needs) (λ c κs. search needs) (λ c κs. search needs) (λ c κs. search needs) returns)
+    (tie.spec (λ c κs. search needs) (λ c κs. search needs) (λ c κs. search needs) (λ c κs. search needs) returns)
