@@ -2,10 +2,10 @@
 //! site file. The work is done by the proved archive; this package only packs
 //! and unpacks what passes its boundary (`include/wirdhalef.h`).
 
-#[cfg(target_arch = "x86_64")]
+#[cfg(linked)]
 mod boundary;
 // The archive is for x86-64 alone; elsewhere a program answers, for tests.
-#[cfg(not(target_arch = "x86_64"))]
+#[cfg(not(linked))]
 #[path = "program.rs"]
 mod boundary;
 mod packed;

@@ -4,30 +4,19 @@
 
 mod common;
 
-use std::env;
 use std::io::Write;
-use std::path::PathBuf;
-use std::process::{Command, Stdio};
+use std::path::Path;
+use std::process::Stdio;
 
-use common::Histogram;
+use common::{command, Histogram, LOG};
 use second::log;
 use second::status::NAMES;
-use second::testkit::{hex, log_input, Breakage, Rng, SiteSpec};
-
-fn program() -> PathBuf {
-    let path = PathBuf::from(env!("CARGO_MANIFEST_DIR")).join("../target/bin/log");
-    assert!(path.exists(), "`rt check log` builds the log program");
-    path
-}
+use second::testkit::{hex, log_input, log_of, Breakage, Rng, SiteSpec};
 
 /// What the program writes for an input.
 fn printed(input: &[u8]) -> Vec<u8> {
-    let emulator = env::var("WIRDHALEF_EMULATOR").unwrap_or_default();
-    let path = program();
-    let path = path.to_str().expect("a readable path");
-    let mut words = emulator.split_whitespace().chain([path]);
-    let mut child = Command::new(words.next().expect("a program"))
-        .args(words)
+    assert!(Path::new(LOG).exists(), "`rt check log` builds the log program");
+    let mut child = command(LOG)
         .stdin(Stdio::piped())
         .stdout(Stdio::piped())
         .spawn()
@@ -43,26 +32,16 @@ fn printed(input: &[u8]) -> Vec<u8> {
 
 /// Both print the same; gives the lines.
 fn check(input: &[u8]) -> String {
-    let [ours, theirs] = [printed(input), log(input)].map(|lines| String::from_utf8(lines));
+    let [ours, theirs] = [printed(input), log(input)].map(String::from_utf8);
     assert_eq!(ours, theirs, "{input:02x?}");
     theirs.expect("lines of text")
-}
-
-fn with_site(site: &[u8], frames: &[&[u8]]) -> Vec<u8> {
-    let mut input = (site.len() as u16).to_le_bytes().to_vec();
-    input.extend(site);
-    for frame in frames {
-        input.push(frame.len() as u8);
-        input.extend(*frame);
-    }
-    input
 }
 
 /// The listing of the requirements, cut anywhere.
 #[test]
 fn listing_cut_anywhere() {
     let (good, bad) = (hex("02 00 6A E4 79"), hex("02 00 6A E4 78"));
-    let input = with_site(&SiteSpec::default().encode(), &[&good, &bad, &[]]);
+    let input = log_of(&SiteSpec::default().encode(), &[&good[..], &bad, &[]]);
     let listing = "frame status octets\n1 SUCCESS 0\n2 FCS 0\n3 LENGTH 0\n";
     assert_eq!(String::from_utf8_lossy(&printed(&input)), listing);
     for len in (0..=input.len()).filter(|len| *len < 4 || *len > 74) {
@@ -75,14 +54,14 @@ fn listing_cut_anywhere() {
 fn sites() {
     let mut rng = Rng::new(501);
     let good = hex("02 00 6A E4 79");
-    check(&with_site(&[0; 3614], &[&[1, 2, 3]]));
-    check(&with_site(&[0; 3613], &[&good, &[]]));
-    check(&with_site(&[], &[&good]));
+    check(&log_of(&[0; 3614], &[&[1, 2, 3]]));
+    check(&log_of(&[0; 3613], &[&good[..], &[]]));
+    check(&log_of(&[], &[&good]));
     check(&[0x1d, 0x0e]);
     check(&[0xff, 0xff, 1]);
     for breakage in Breakage::all().into_iter().step_by(4) {
         let site = breakage.apply(&mut rng, &SiteSpec::default());
-        check(&with_site(&site, &[&good, &[]]));
+        check(&log_of(&site, &[&good[..], &[]]));
     }
 }
 

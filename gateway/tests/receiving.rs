@@ -2,8 +2,9 @@
 
 mod common;
 
-use common::{buffer, summed, Histogram, Reception};
-use second::testkit::{frame, frame_of, Allowance, Breakage, FrameCase, Rng, SiteSpec};
+use common::{buffer, Histogram, Reception};
+use second::testkit::{frame, frame_of, run_of, summed, summed_again};
+use second::testkit::{Allowance, Breakage, FrameCase, Rng, SiteSpec};
 
 const REFUSALS: [u8; 14] = [2, 3, 4, 5, 6, 7, 8, 9, 10, 11, 12, 13, 14, 15];
 
@@ -191,7 +192,7 @@ fn flipped_and_cut() {
         for bit in 0..8 * good.len() {
             let mut frame = good.clone();
             frame[bit / 8] ^= 1 << (bit % 8);
-            frames.push(summed(&frame[..frame.len() - 2]));
+            frames.push(summed_again(&frame));
             frames.push(frame);
         }
         for len in 2..good.len() {
@@ -213,12 +214,8 @@ fn many_frames() {
     let mut accepted = 0;
     for round in 0..300 {
         let spec = SiteSpec::random(&mut rng);
-        let mut frames = Vec::new();
-        for _ in 0..12 {
-            let frame = frame(&mut rng, &spec).1;
-            frames.push(frame.len() as u8);
-            frames.extend(frame);
-        }
+        let drawn: Vec<Vec<u8>> = (0..12).map(|_| frame(&mut rng, &spec).1).collect();
+        let mut frames = run_of(&drawn);
         if rng.chance(20) {
             frames.truncate(rng.below(frames.len()));
         }

@@ -2,10 +2,10 @@
 
 mod common;
 
-use common::{buffer, summed, Order, Outcome, Reception};
-use second::testkit::{hex, known_frames, known_requests, probe_frame, probed};
-use second::testkit::{BuildInput, Level, SiteSpec};
-use second::{Address, Built, Received, Request};
+use common::{buffer, Order, Outcome, Reception};
+use second::testkit::{hex, known_frames, known_requests, probe_frame, probe_request, probed};
+use second::testkit::{summed, summed_again, BuildInput, Level, SiteSpec};
+use second::{Built, Received};
 
 const KEY: [u8; 16] = [0x3c; 16];
 
@@ -39,11 +39,10 @@ fn known_frames_received() {
 fn known_frames_flipped() {
     for known in known_frames() {
         let tagged = received(&known.site, known.frame.clone()).answer.level % 4 > 0;
-        let body = known.frame.len() - 2;
-        for bit in 0..8 * body {
-            let mut frame = known.frame[..body].to_vec();
+        for bit in 0..8 * (known.frame.len() - 2) {
+            let mut frame = known.frame.clone();
             frame[bit / 8] ^= 1 << (bit % 8);
-            let status = received(&known.site, summed(&frame)).answer.status;
+            let status = received(&known.site, summed_again(&frame)).answer.status;
             assert!(!tagged || status > 0, "{}, bit {bit}", known.title);
         }
     }
@@ -80,17 +79,10 @@ fn counters() {
     }
 }
 
-/// A data frame to the probe with a header of 9 octets.
-fn request() -> Request {
-    let destination = Address { mode: 2, pan: 0x4321, address: 5 };
-    let plain = Request { kind: 1, version: 1, destination, srcmode: 2, ..Request::default() };
-    Request { level: 6, keymode: 1, keyindex: 1, ..plain }
-}
-
 #[test]
 fn header_9_mode_1_level_6_has_room_for_102() {
     let site = probed(5, KEY);
-    let input = |len| BuildInput { request: request(), open: vec![], private: vec![7; len] };
+    let input = |len| BuildInput { request: probe_request(6), open: vec![], private: vec![7; len] };
     assert_eq!(built(&site, input(103)).answer, Built { status: 16, len: 0 });
     let outcome = built(&site, input(102));
     assert_eq!((outcome.answer, outcome.out[9]), (Built { status: 0, len: 127 }, 0x0e));
@@ -102,15 +94,14 @@ fn header_9_mode_1_level_6_has_room_for_102() {
 #[test]
 fn own_counter() {
     let mut site = probed(0xffff_fffe, KEY);
-    let input = BuildInput { request: request(), ..BuildInput::default() };
+    let input = BuildInput { request: probe_request(6), ..BuildInput::default() };
     let outcome = built(&site, input.clone());
     assert_eq!(outcome.answer.status, 0);
     assert_eq!(outcome.out[10..14], [0xfe, 0xff, 0xff, 0xff]);
     site.refresh(&outcome.site);
     assert_eq!(site.settings.counter, 0xffff_ffff);
     assert_eq!(built(&site, input.clone()).answer.status, 14);
-    let plain = Request { level: 0, ..request() };
-    let outcome = built(&site, BuildInput { request: plain, ..input });
+    let outcome = built(&site, BuildInput { request: probe_request(0), ..input });
     assert_eq!(outcome.answer, Built { status: 0, len: 11 });
 }
 

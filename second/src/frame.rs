@@ -25,6 +25,16 @@ pub struct Address {
     pub address: u64,
 }
 
+impl Address {
+    pub fn short(pan: u16, address: u64) -> Self {
+        Address { mode: SHORT, pan, address }
+    }
+
+    pub fn extended(pan: u16, address: u64) -> Self {
+        Address { mode: EXTENDED, pan, address }
+    }
+}
+
 /// The header's fields, 0 where absent.
 #[derive(Clone, Copy, Debug, Default, PartialEq, Eq)]
 pub struct Header {

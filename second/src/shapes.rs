@@ -13,8 +13,8 @@ const EVERYBODY: Address = Address { mode: 2, pan: 0xffff, address: 0xffff };
 /// The site's own address, in the form of a mode.
 fn own(mode: u8) -> Address {
     match mode {
-        2 => Address { mode, pan: PAN, address: u64::from(SHORT) },
-        3 => Address { mode, pan: PAN, address: EXTENDED },
+        2 => Address::short(PAN, u64::from(SHORT)),
+        3 => Address::extended(PAN, EXTENDED),
         _ => Address::default(),
     }
 }
@@ -67,7 +67,7 @@ fn shapes_site() -> SiteSpec {
 /// A site with so many records of each kind but the settings.
 fn counted(counts: [usize; 6]) -> Vec<u8> {
     let [devices, levels, keys, lookups, usages, handles] = counts;
-    let (last_key, last_device) = (keys.min(16).max(1) - 1, devices.min(64).max(1) - 1);
+    let (last_key, last_device) = (keys.clamp(1, 16) - 1, devices.clamp(1, 64) - 1);
     let device = |number: usize| Device {
         pan: PAN,
         short: number as u16,

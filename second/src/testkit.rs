@@ -8,9 +8,13 @@
 //! - `Plan`: a frame as fields; `bare` and `seal` give its octets.
 //! - `FrameCase`, `frame`: random frames that fit a site, good and damaged.
 //! - `BuildInput`, `RequestBreakage`, `request`: random build requests.
+//! - `summed`, `summed_again`: a frame's FCS put behind it, and redone.
 //! - `KnownFrame`, `KnownRequest`: published vectors as whole frames.
+//! - `probed`, `probe_frame`, `probe_request`: a small site, a frame to it and
+//!   a request of it.
 //! - `Cases`: the input of the answers program and what it must write.
-//! - `log_input`: a random input of the log program.
+//! - `run_of`, `log_of`, `log_input`: frames in a row, an input of the log
+//!   program, and a random one.
 //! - `hex`: octets from their hexadecimal digits.
 
 mod answers;
@@ -23,12 +27,13 @@ mod vectors;
 
 pub use answers::Cases;
 pub use damage::{Allowance, Breakage};
-pub use frames::{frame, frame_of, log_input, open_payload, FrameCase, Plan};
+pub use frames::{frame, frame_of, log_input, log_of, open_payload, run_of};
+pub use frames::{summed, summed_again, FrameCase, Plan};
 pub use requests::{request, request_of, BuildInput, RequestBreakage};
 pub use rng::Rng;
 pub use sites::{Device, Handle, Level, Lookup, Settings, SiteSpec, Usage};
-pub use vectors::{known_frames, known_requests, probe, probe_frame, probed};
-pub use vectors::{KnownFrame, KnownRequest};
+pub use vectors::{known_frames, known_requests, probe, probe_frame, probe_request, probed};
+pub use vectors::{KnownFrame, KnownRequest, ANNEX_KEY, ONE, TWO};
 
 /// The octets written in hexadecimal; blanks and bars are skipped.
 pub fn hex(text: &str) -> Vec<u8> {

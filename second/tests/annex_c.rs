@@ -3,30 +3,9 @@
 
 use second::aes::Aes;
 use second::ccm::{nonce, seal, unseal};
-use second::fcs::fcs;
-use second::testkit::{hex, Device, Handle, Level, Lookup, Settings, SiteSpec, Usage};
-use second::{build, receive, site_holds, Address, Built, Header, Received, Request};
-
-const KEY: &str = "C0 C1 C2 C3 C4 C5 C6 C7 C8 C9 CA CB CC CD CE CF";
-const ONE: u64 = 0xacde_4800_0000_0001;
-const TWO: u64 = 0xacde_4800_0000_0002;
-
-const BEACON: &str = "08 D0 84 21 43 01 00 00 00 00 48 DE AC || 02 05 00 00 00 || \
-    55 CF 00 00 51 52 53 54 22 3B C1 EC 84 1A B5 53";
-const DATA: &str = "69 DC 84 21 43 02 00 00 00 00 48 DE AC 01 00 00 00 00 48 DE AC || \
-    04 05 00 00 00 || D4 3E 02 2B";
-const COMMAND: &str = "2B DC 84 21 43 02 00 00 00 00 48 DE AC FF FF 01 00 00 00 00 48 DE AC || \
-    06 05 00 00 00 || 01 D8 4F DE 52 90 61 F9 C6 F1";
-
-const PLAIN_BEACON: &str = "00 C0 84 21 43 01 00 00 00 00 48 DE AC || 55 CF 00 00 51 52 53 54";
-const PLAIN_DATA: &str =
-    "61 CC 84 21 43 02 00 00 00 00 48 DE AC 01 00 00 00 00 48 DE AC || 61 62 63 64";
-const PLAIN_COMMAND: &str =
-    "23 CC 84 21 43 02 00 00 00 00 48 DE AC FF FF 01 00 00 00 00 48 DE AC || 01 CE";
-
-fn key() -> [u8; 16] {
-    hex(KEY).try_into().unwrap()
-}
+use second::testkit::{hex, known_frames, known_requests, summed_again, KnownFrame};
+use second::testkit::{ANNEX_KEY, ONE, TWO};
+use second::{build, receive, site_holds, Address, Built, Header, Received};
 
 fn block(text: &str) -> [u8; 16] {
     hex(text).try_into().unwrap()
@@ -41,7 +20,7 @@ fn check_transformation(
     c: &str,
     tag_len: usize,
 ) {
-    let cipher = Aes::new(&key());
+    let cipher = Aes::new(&ANNEX_KEY);
     let nonce = nonce(ONE, 5, level);
     assert_eq!(nonce.to_vec(), hex(expected_nonce));
     let (data, mut message) = (hex(a), hex(m));
@@ -113,7 +92,7 @@ fn c_2_sums() {
         let mut sum = [0; 16];
         for (part, next) in table {
             second::aes::xor(&mut sum, &block(part));
-            sum = Aes::new(&key()).encrypt(&sum);
+            sum = Aes::new(&ANNEX_KEY).encrypt(&sum);
             assert_eq!(sum, block(next));
         }
     }
@@ -141,62 +120,31 @@ fn c_2_key_stream() {
         ),
     ];
     for (input, output) in blocks {
-        assert_eq!(Aes::new(&key()).encrypt(&block(input)), block(output));
+        assert_eq!(Aes::new(&ANNEX_KEY).encrypt(&block(input)), block(output));
     }
 }
 
-fn summed(text: &str) -> Vec<u8> {
-    let mut frame = hex(text);
-    let sum = fcs(&frame);
-    frame.extend(sum.to_le_bytes());
-    frame
-}
-
-fn extended(pan: u16, address: u64) -> Address {
-    Address { mode: 3, pan, address }
-}
-
-/// The receiver TWO; the originator ONE stands under the given PAN.
-fn receiver(peer_pan: u16, level: u8) -> Vec<u8> {
-    let site = SiteSpec {
-        settings: Settings {
-            pan: 0x4321,
-            short: 0xfffe,
-            extended: TWO,
-            flags: 1,
-            ..Settings::default()
-        },
-        devices: vec![
-            Device { pan: 0x4321, short: 7, extended: 77, ..Device::default() },
-            Device { pan: peer_pan, short: 0xfffe, extended: ONE, counter: 5, exempt: 0 },
-        ],
-        levels: [0, 1, 3]
-            .map(|kind| Level { kind, command: 1, minimum: level, ..Level::default() })
-            .to_vec(),
-        keys: vec![[9; 16], key()],
-        lookups: vec![Lookup { key: 1, peer: extended(peer_pan, ONE), ..Lookup::default() }],
-        usages: [0, 1, 3].map(|kind| Usage { key: 1, kind, command: 1 }).to_vec(),
-        handles: vec![Handle { key: 1, device: 0 }, Handle { key: 1, device: 1 }],
-    }
-    .encode();
-    assert!(site_holds(&site));
-    site
+/// The annex's frame of this title, at its receiver.
+fn known(title: &str) -> KnownFrame {
+    known_frames().into_iter().find(|known| known.title == title).expect("a frame of the annex")
 }
 
 /// Receives a secured frame; only the device's counter and the first octets
 /// of the output may change.
-fn check_received(frame: &[u8], peer_pan: u16, expected: Received, private: &[u8]) {
-    let mut site = receiver(peer_pan, expected.level);
+fn check_received(title: &str, expected: Received) {
+    let KnownFrame { site, frame, private, .. } = known(title);
+    let mut site = site.encode();
+    assert!(site_holds(&site));
     let mut after = site.clone();
     let counter_at = 77 + 17 + 12;
     assert_eq!(after[counter_at..counter_at + 4], [5, 0, 0, 0]);
     after[counter_at] = 6;
     let mut out = [0xee; 130];
-    assert_eq!(receive(&mut site, frame, &mut out), expected);
+    assert_eq!(receive(&mut site, &frame, &mut out), expected);
     assert_eq!(site, after);
-    assert_eq!(&out[..private.len()], private);
+    assert_eq!(out[..private.len()], private);
     assert!(out[private.len()..].iter().all(|octet| *octet == 0xee));
-    let again = receive(&mut site, frame, &mut out);
+    let again = receive(&mut site, &frame, &mut out);
     assert_eq!(again, Received { status: 14, ..Received::default() });
 }
 
@@ -207,7 +155,7 @@ fn c_2_1_beacon_received() {
             security: 1,
             version: 1,
             sequence: 0x84,
-            source: extended(0x4321, ONE),
+            source: Address::extended(0x4321, ONE),
             ..Header::default()
         },
         level: 2,
@@ -217,7 +165,7 @@ fn c_2_1_beacon_received() {
         len: 4,
         ..Received::default()
     };
-    check_received(&summed(BEACON), 0x4321, expected, &hex("51 52 53 54"));
+    check_received("Annex C.2.1, beacon", expected);
 }
 
 #[test]
@@ -230,8 +178,8 @@ fn c_2_2_data_received() {
             compression: 1,
             version: 1,
             sequence: 0x84,
-            destination: extended(0x4321, TWO),
-            source: extended(0x4321, ONE),
+            destination: Address::extended(0x4321, TWO),
+            source: Address::extended(0x4321, ONE),
             ..Header::default()
         },
         level: 4,
@@ -240,7 +188,7 @@ fn c_2_2_data_received() {
         start: 26,
         ..Received::default()
     };
-    check_received(&summed(DATA), 0x4321, expected, &hex("61 62 63 64"));
+    check_received("Annex C.2.2, data", expected);
 }
 
 #[test]
@@ -252,8 +200,8 @@ fn c_2_3_command_received() {
             request: 1,
             version: 1,
             sequence: 0x84,
-            destination: extended(0x4321, TWO),
-            source: extended(0xffff, ONE),
+            destination: Address::extended(0x4321, TWO),
+            source: Address::extended(0xffff, ONE),
             ..Header::default()
         },
         level: 6,
@@ -263,20 +211,20 @@ fn c_2_3_command_received() {
         len: 1,
         ..Received::default()
     };
-    check_received(&summed(COMMAND), 0xffff, expected, &hex("CE"));
+    check_received("Annex C.2.3, command", expected);
 }
 
 #[test]
 fn c_2_plain_frames_received() {
-    let frames = [(PLAIN_BEACON, 13, 4, 4), (PLAIN_DATA, 21, 0, 4), (PLAIN_COMMAND, 23, 1, 1)];
-    for (text, start, len, private) in frames {
-        let (frame, mut site, mut out) = (summed(text), receiver(0x4321, 0), [0xee; 127]);
+    let frames = [("C.2.1", 13, 4), ("C.2.2", 21, 0), ("C.2.3", 23, 1)];
+    for (clause, start, len) in frames {
+        let known = known(&format!("Annex {clause}, unsecured"));
+        let (mut site, mut out) = (known.site.encode(), [0xee; 127]);
         let before = site.clone();
-        let received = receive(&mut site, &frame, &mut out);
-        let parts = (received.status, received.start, received.len, received.private);
-        assert_eq!(parts, (0, start, len, private));
+        let received = receive(&mut site, &known.frame, &mut out);
+        assert_eq!((received.status, received.start, received.len), (0, start, len));
         assert_eq!((received.level, received.keymode, received.device), (0, 0, 0));
-        assert_eq!(out[..private], frame[start + len..start + len + private]);
+        assert_eq!(out[..received.private], known.private);
         assert_eq!(site, before);
     }
 }
@@ -285,99 +233,39 @@ fn c_2_plain_frames_received() {
 /// Level 4 has no tag, so the data frame is left out.
 #[test]
 fn c_2_flipped_bits_refused() {
-    for (text, pan) in [(BEACON, 0x4321), (COMMAND, 0xffff)] {
-        let good = hex(text);
-        for bit in 0..8 * good.len() {
-            let mut frame = good.clone();
+    for title in ["Annex C.2.1, beacon", "Annex C.2.3, command"] {
+        let mut known = known(title);
+        known.site.levels.iter_mut().for_each(|level| level.minimum = 1);
+        let before = known.site.encode();
+        for bit in 0..8 * (known.frame.len() - 2) {
+            let mut frame = known.frame.clone();
             frame[bit / 8] ^= 1 << (bit % 8);
-            let sum = fcs(&frame);
-            frame.extend(sum.to_le_bytes());
-            let (mut site, mut out) = (receiver(pan, 1), [0xee; 127]);
-            let before = site.clone();
-            let received = receive(&mut site, &frame, &mut out);
+            let (mut site, mut out) = (before.clone(), [0xee; 127]);
+            let received = receive(&mut site, &summed_again(&frame), &mut out);
             assert_ne!(received.status, 0, "bit {bit}");
             assert_eq!(received, Received { status: received.status, ..Received::default() });
-            assert_eq!((site, out), (before, [0xee; 127]));
+            assert_eq!((&site, out), (&before, [0xee; 127]));
         }
     }
 }
 
-/// The originator ONE, with TWO as its coordinator.
-fn originator(pan: u16) -> Vec<u8> {
-    let coordinator = extended(pan, TWO);
-    SiteSpec {
-        settings: Settings {
-            pan,
-            short: 0xfffe,
-            extended: ONE,
-            coordinator_short: 0xfffe,
-            coordinator_extended: TWO,
-            flags: 1,
-            counter: 5,
-            ..Settings::default()
-        },
-        keys: vec![key()],
-        lookups: vec![
-            Lookup { peer: coordinator, ..Lookup::default() },
-            Lookup { peer: extended(0x4321, TWO), ..Lookup::default() },
-        ],
-        ..SiteSpec::default()
+/// Each frame of the annex as its originator builds it, secured and not; only
+/// the own counter and the first octets of the output may change.
+#[test]
+fn c_2_frames_built() {
+    let all = known_requests();
+    assert_eq!(all.len(), 6);
+    for known in all {
+        let (mut site, mut out) = (known.site.encode(), [0xee; 127]);
+        let (mut after, len) = (site.clone(), known.frame.len());
+        if known.input.request.level > 0 {
+            after[42 + 31] = 6;
+        }
+        let (open, private) = (&known.input.open, &known.input.private);
+        let built = build(&mut site, &known.input.request, open, private, &mut out);
+        assert_eq!(built, Built { status: 0, len }, "{}", known.title);
+        assert_eq!(out[..len], known.frame, "{}", known.title);
+        assert!(out[len..].iter().all(|octet| *octet == 0xee));
+        assert_eq!(site, after);
     }
-    .encode()
-}
-
-fn check_built(pan: u16, request: Request, open: &str, private: &str, text: &str) {
-    let (mut site, mut out, frame) = (originator(pan), [0xee; 127], summed(text));
-    let mut after = site.clone();
-    if request.level > 0 {
-        after[42 + 31] = 6;
-    }
-    let built = build(&mut site, &request, &hex(open), &hex(private), &mut out);
-    assert_eq!(built, Built { status: 0, len: frame.len() });
-    assert_eq!(out[..frame.len()], frame);
-    assert!(out[frame.len()..].iter().all(|octet| *octet == 0xee));
-    assert_eq!(site, after);
-}
-
-#[test]
-fn c_2_1_beacon_built() {
-    let request =
-        Request { version: 1, sequence: 0x84, srcmode: 3, level: 2, ..Request::default() };
-    check_built(0x4321, request, "55 CF 00 00", "51 52 53 54", BEACON);
-    let plain = Request { version: 0, level: 0, ..request };
-    check_built(0x4321, plain, "55 CF 00 00", "51 52 53 54", PLAIN_BEACON);
-}
-
-#[test]
-fn c_2_2_data_built() {
-    let request = Request {
-        kind: 1,
-        version: 1,
-        request: true,
-        sequence: 0x84,
-        destination: extended(0x4321, TWO),
-        srcmode: 3,
-        level: 4,
-        ..Request::default()
-    };
-    check_built(0x4321, request, "", "61 62 63 64", DATA);
-    let plain = Request { version: 0, level: 0, ..request };
-    check_built(0x4321, plain, "", "61 62 63 64", PLAIN_DATA);
-}
-
-#[test]
-fn c_2_3_command_built() {
-    let request = Request {
-        kind: 3,
-        version: 1,
-        request: true,
-        sequence: 0x84,
-        destination: extended(0x4321, TWO),
-        srcmode: 3,
-        level: 6,
-        ..Request::default()
-    };
-    check_built(0xffff, request, "01", "CE", COMMAND);
-    let plain = Request { version: 0, level: 0, ..request };
-    check_built(0xffff, plain, "01", "CE", PLAIN_COMMAND);
 }

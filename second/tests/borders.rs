@@ -3,12 +3,11 @@
 use second::fcs::{fcs, fcs_holds};
 use second::frame::{open_len, read_header, security_len, tag_len};
 use second::receive::at_least;
-use second::testkit::{hex, Allowance, Breakage, Device, Handle, Level, Lookup, Plan, Rng};
-use second::testkit::{Settings, SiteSpec, Usage};
-use second::{build, receive, site_holds, Address, Built, Header, Received, Request};
+use second::testkit::{hex, probe_frame, probe_request, probed, summed_again};
+use second::testkit::{Allowance, Breakage, Rng, SiteSpec};
+use second::{build, receive, site_holds, Address, Built, Received, Request};
 
 const KEY: [u8; 16] = [0x3c; 16];
-const PROBE: u64 = 0x1122_3344_5566_7788;
 
 #[test]
 fn fcs_of_02_00_6a() {
@@ -54,8 +53,8 @@ fn control_61_88_and_69_98() {
         let (header, len) = read_header(&frame).unwrap();
         assert_eq!((header.kind, header.compression, len), (1, 1, 9));
         assert_eq!((header.security, header.version), (security, version));
-        assert_eq!(header.destination, Address { mode: 2, pan: 0x4321, address: 0x0302 });
-        assert_eq!(header.source, Address { mode: 2, pan: 0x4321, address: 0x0504 });
+        assert_eq!(header.destination, Address::short(0x4321, 0x0302));
+        assert_eq!(header.source, Address::short(0x4321, 0x0504));
     }
 }
 
@@ -75,56 +74,9 @@ fn beacon_open_payloads() {
     );
 }
 
-/// A coordinator with one probe that may send data at any level above 0.
-fn spec(counter: u32) -> SiteSpec {
-    SiteSpec {
-        settings: Settings {
-            pan: 0x4321,
-            short: 0,
-            extended: 0xaa,
-            keysource: [0xff; 8],
-            flags: 3,
-            counter,
-            ..Settings::default()
-        },
-        devices: vec![Device { pan: 0x4321, short: 5, extended: PROBE, counter, exempt: 0 }],
-        levels: vec![Level { kind: 1, minimum: 0, allowed: 0xfe, ..Level::default() }],
-        keys: vec![KEY],
-        lookups: vec![Lookup { mode: 1, index: 1, source: [0xff; 8], ..Lookup::default() }],
-        usages: vec![Usage { kind: 1, ..Usage::default() }],
-        handles: vec![Handle::default()],
-    }
-}
-
-fn short(address: u64) -> Address {
-    Address { mode: 2, pan: 0x4321, address }
-}
-
-/// A data frame of the probe, header 9, key mode 1.
-fn probe_frame(counter: u32, level: u8, private: &[u8]) -> Vec<u8> {
-    let mut plan = Plan {
-        header: Header {
-            kind: 1,
-            security: 1,
-            compression: 1,
-            version: 1,
-            destination: short(0),
-            source: short(5),
-            ..Header::default()
-        },
-        private: private.to_vec(),
-        ..Plan::default()
-    };
-    plan.security.level = level;
-    plan.security.keymode = 1;
-    plan.security.keyindex = 1;
-    plan.security.counter = counter;
-    plan.seal(&KEY, PROBE)
-}
-
 /// The status and the counter after receiving.
 fn counted(site: &mut [u8], counter: u32) -> (u8, u32) {
-    let frame = probe_frame(counter, 6, b"reading");
+    let frame = probe_frame(counter, 6, &KEY, b"reading");
     let mut out = [0; 127];
     let status = receive(site, &frame, &mut out).status;
     assert_eq!(&out[..7] == b"reading", status == 0);
@@ -133,7 +85,7 @@ fn counted(site: &mut [u8], counter: u32) -> (u8, u32) {
 
 #[test]
 fn counter_at_5() {
-    let mut site = spec(5).encode();
+    let mut site = probed(5, KEY).encode();
     assert_eq!(counted(&mut site, 4), (14, 5));
     assert_eq!(counted(&mut site, 5), (0, 6));
     assert_eq!(counted(&mut site, 5), (14, 6));
@@ -142,7 +94,7 @@ fn counter_at_5() {
 
 #[test]
 fn counter_at_the_end() {
-    let mut site = spec(5).encode();
+    let mut site = probed(5, KEY).encode();
     assert_eq!(counted(&mut site, 0xffff_ffff), (14, 5));
     assert_eq!(counted(&mut site, 0xffff_fffe), (0, 0xffff_ffff));
     for counter in [0, 5, 0xffff_fffe, 0xffff_ffff] {
@@ -152,16 +104,14 @@ fn counter_at_the_end() {
 
 #[test]
 fn wrong_tag_keeps_the_counter() {
-    let mut site = spec(5).encode();
+    let mut site = probed(5, KEY).encode();
     let before = site.clone();
     for level in [1, 2, 3, 5, 6, 7] {
-        let mut frame = probe_frame(9, level, b"reading");
-        let end = frame.len() - 2;
-        frame[end - 1] ^= 0x80;
-        let sum = fcs(&frame[..end]);
-        frame[end..].copy_from_slice(&sum.to_le_bytes());
+        let mut frame = probe_frame(9, level, &KEY, b"reading");
+        let last = frame.len() - 3;
+        frame[last] ^= 0x80;
         let mut out = [0xee; 127];
-        let received = receive(&mut site, &frame, &mut out);
+        let received = receive(&mut site, &summed_again(&frame), &mut out);
         assert_eq!(received, Received { status: 15, ..Received::default() });
         assert_eq!((&site, out), (&before, [0xee; 127]));
     }
@@ -169,11 +119,9 @@ fn wrong_tag_keeps_the_counter() {
 
 #[test]
 fn own_counter() {
-    let request =
-        Request { kind: 1, version: 1, destination: short(5), srcmode: 2, ..Request::default() };
-    let request = Request { level: 6, keymode: 1, keyindex: 1, ..request };
+    let request = probe_request(6);
     let mut out = [0; 127];
-    let mut site = spec(0xffff_fffe).encode();
+    let mut site = probed(0xffff_fffe, KEY).encode();
     assert_eq!(build(&mut site, &request, &[], &[], &mut out).status, 0);
     assert_eq!(site[73..77], [0xff; 4]);
     assert_eq!(out[10..14], [0xfe, 0xff, 0xff, 0xff]);
@@ -186,13 +134,11 @@ fn own_counter() {
 
 #[test]
 fn header_9_mode_1_level_6_has_room_for_102() {
-    let request =
-        Request { kind: 1, version: 1, destination: short(5), srcmode: 2, ..Request::default() };
-    let request = Request { level: 6, keymode: 1, keyindex: 1, ..request };
-    let (mut site, mut out) = (spec(5).encode(), [0xee; 127]);
+    let request = probe_request(6);
+    let (mut site, mut out) = (probed(5, KEY).encode(), [0xee; 127]);
     let built = build(&mut site, &request, &[], &[7; 103], &mut out);
     assert_eq!((built, out), (Built { status: 16, len: 0 }, [0xee; 127]));
-    assert_eq!(site, spec(5).encode());
+    assert_eq!(site, probed(5, KEY).encode());
     let built = build(&mut site, &request, &[], &[7; 102], &mut out);
     assert_eq!(built, Built { status: 0, len: 127 });
     assert_eq!(out[9], 0x0e);
@@ -200,8 +146,8 @@ fn header_9_mode_1_level_6_has_room_for_102() {
 
 #[test]
 fn longest_frame_received() {
-    let (mut site, mut out) = (spec(5).encode(), [0xee; 127]);
-    let frame = probe_frame(5, 6, &[7; 102]);
+    let (mut site, mut out) = (probed(5, KEY).encode(), [0xee; 127]);
+    let frame = probe_frame(5, 6, &KEY, &[7; 102]);
     assert_eq!(frame.len(), 127);
     let received = receive(&mut site, &frame, &mut out);
     assert_eq!((received.status, received.private, received.device), (0, 102, 1));
@@ -210,7 +156,7 @@ fn longest_frame_received() {
 
 #[test]
 fn room_and_length() {
-    let (mut site, frame) = (spec(5).encode(), hex("02 00 6A E4 79"));
+    let (mut site, frame) = (probed(5, KEY).encode(), hex("02 00 6A E4 79"));
     assert_eq!(receive(&mut site, &frame, &mut [0; 126]).status, 2);
     assert_eq!(receive(&mut site, &frame, &mut [0; 127]).status, 0);
     assert_eq!(receive(&mut site, &frame[..4], &mut [0; 127]).status, 3);

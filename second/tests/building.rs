@@ -9,14 +9,6 @@ const PAN: u16 = 0x4321;
 const OWN: u64 = 0xacde_4800_0000_00aa;
 const HUB: u64 = 0xacde_4800_0000_00cc;
 
-fn short(pan: u16, address: u64) -> Address {
-    Address { mode: 2, pan, address }
-}
-
-fn extended(pan: u16, address: u64) -> Address {
-    Address { mode: 3, pan, address }
-}
-
 /// Short address 1, coordinator 9, one key; no usages, devices or levels.
 fn spec() -> SiteSpec {
     SiteSpec {
@@ -35,8 +27,8 @@ fn spec() -> SiteSpec {
             Lookup { mode: 1, index: 1, source: [0xff; 8], ..Lookup::default() },
             Lookup { mode: 2, index: 2, source: [1, 2, 3, 4, 5, 6, 7, 8], ..Lookup::default() },
             Lookup { mode: 3, index: 3, source: [1, 2, 3, 4, 5, 6, 7, 8], ..Lookup::default() },
-            Lookup { mode: 0, peer: short(PAN, 0xdead_0009), ..Lookup::default() },
-            Lookup { mode: 0, peer: extended(PAN, HUB), ..Lookup::default() },
+            Lookup { mode: 0, peer: Address::short(PAN, 0xdead_0009), ..Lookup::default() },
+            Lookup { mode: 0, peer: Address::extended(PAN, HUB), ..Lookup::default() },
         ],
         ..SiteSpec::default()
     }
@@ -48,7 +40,7 @@ fn data() -> Request {
         kind: 1,
         version: 1,
         sequence: 0x6a,
-        destination: short(PAN, 9),
+        destination: Address::short(PAN, 9),
         srcmode: 2,
         level: 6,
         keymode: 1,
@@ -89,7 +81,10 @@ fn headers_as_written() {
         assert_eq!((status, &frame[..frame.len() - 2]), (0, &hex(text)[..]));
     };
     check(data(), "41 88 6A 21 43 09 00 01 00");
-    check(Request { destination: short(PAN + 1, 9), ..data() }, "01 88 6A 22 43 09 00 21 43 01 00");
+    check(
+        Request { destination: Address::short(PAN + 1, 9), ..data() },
+        "01 88 6A 22 43 09 00 21 43 01 00",
+    );
     check(Request { srcmode: 0, pending: true, ..data() }, "11 08 6A 21 43 09 00");
     check(
         Request { destination: Address::default(), request: true, ..data() },
@@ -97,8 +92,11 @@ fn headers_as_written() {
     );
     let ignored = Address { mode: 0, pan: PAN, address: 9 };
     check(Request { destination: ignored, ..data() }, "01 80 6A 21 43 01 00");
-    check(Request { destination: short(PAN, 0xdead_0009), ..data() }, "41 88 6A 21 43 09 00 01 00");
-    let long = Request { destination: extended(PAN, HUB), srcmode: 3, ..data() };
+    check(
+        Request { destination: Address::short(PAN, 0xdead_0009), ..data() },
+        "41 88 6A 21 43 09 00 01 00",
+    );
+    let long = Request { destination: Address::extended(PAN, HUB), srcmode: 3, ..data() };
     check(long, "41 CC 6A 21 43 CC 00 00 00 00 48 DE AC AA 00 00 00 00 48 DE AC");
     let bare = Request { destination: ignored, srcmode: 0, kind: 2, ..data() };
     check(bare, "02 00 6A");
@@ -132,11 +130,14 @@ fn keys() {
     assert_eq!(status(&spec, mode_3), 11);
     let mode_0 = Request { keymode: 0, ..data() };
     // Only the first two octets of a short address are used.
-    assert_eq!(status(&spec, Request { destination: short(PAN, 0xbeef_0009), ..mode_0 }), 0);
-    assert_eq!(status(&spec, Request { destination: short(PAN, 0xffff), ..mode_0 }), 11);
-    assert_eq!(status(&spec, Request { destination: short(PAN + 1, 9), ..mode_0 }), 11);
-    assert_eq!(status(&spec, Request { destination: extended(PAN, HUB), ..mode_0 }), 0);
-    assert_eq!(status(&spec, Request { destination: extended(PAN, 9), ..mode_0 }), 11);
+    assert_eq!(
+        status(&spec, Request { destination: Address::short(PAN, 0xbeef_0009), ..mode_0 }),
+        0
+    );
+    assert_eq!(status(&spec, Request { destination: Address::short(PAN, 0xffff), ..mode_0 }), 11);
+    assert_eq!(status(&spec, Request { destination: Address::short(PAN + 1, 9), ..mode_0 }), 11);
+    assert_eq!(status(&spec, Request { destination: Address::extended(PAN, HUB), ..mode_0 }), 0);
+    assert_eq!(status(&spec, Request { destination: Address::extended(PAN, 9), ..mode_0 }), 11);
 }
 
 #[test]
@@ -206,8 +207,8 @@ fn listener(spec: &SiteSpec, input: &BuildInput, key: u8) -> SiteSpec {
     // Without a source, the stand-in's PAN is the listener's.
     let from_pan = if request.srcmode == 0 { pan } else { own.pan };
     let peer = match request.srcmode {
-        2 => short(from_pan, own.short.into()),
-        _ => extended(from_pan, own.extended),
+        2 => Address::short(from_pan, own.short.into()),
+        _ => Address::extended(from_pan, own.extended),
     };
     let source = if request.keymode == 1 { own.keysource } else { request.keysource };
     let command = input.open.first().copied().unwrap_or(0);

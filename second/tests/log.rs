@@ -1,18 +1,8 @@
 //! The log program.
 
 use second::status::NAMES;
-use second::testkit::{hex, log_input, Breakage, Rng, SiteSpec};
+use second::testkit::{hex, log_input, log_of, Breakage, Rng, SiteSpec};
 use second::{log, receive};
-
-fn with_site(site: &[u8], frames: &[&[u8]]) -> Vec<u8> {
-    let mut input = (site.len() as u16).to_le_bytes().to_vec();
-    input.extend(site);
-    for frame in frames {
-        input.push(frame.len() as u8);
-        input.extend(*frame);
-    }
-    input
-}
 
 fn printed(input: &[u8]) -> String {
     String::from_utf8(log(input)).unwrap()
@@ -20,7 +10,7 @@ fn printed(input: &[u8]) -> String {
 
 fn listing() -> Vec<u8> {
     let (good, bad) = (hex("02 00 6A E4 79"), hex("02 00 6A E4 78"));
-    with_site(&SiteSpec::default().encode(), &[&good, &bad, &[]])
+    log_of(&SiteSpec::default().encode(), &[&good[..], &bad, &[]])
 }
 
 #[test]
@@ -49,7 +39,7 @@ fn cut_anywhere() {
 #[test]
 fn site_too_long() {
     let expected = "frame status octets\nSITE\n";
-    assert_eq!(printed(&with_site(&[0; 3614], &[&[1, 2, 3]])), expected);
+    assert_eq!(printed(&log_of(&[0; 3614], &[&[1, 2, 3]])), expected);
     assert_eq!(printed(&[0x1e, 0x0e]), expected);
     assert_eq!(printed(&[0xff, 0xff, 1]), expected);
     assert_eq!(printed(&[0x1d, 0x0e]), "frame status octets\nCUT\n");
@@ -59,19 +49,19 @@ fn site_too_long() {
 fn broken_site() {
     let good = hex("02 00 6A E4 79");
     let expected = "frame status octets\n1 SITE 0\n2 SITE 0\n";
-    assert_eq!(printed(&with_site(&[0; 3613], &[&good, &[]])), expected);
-    assert_eq!(printed(&with_site(&[], &[&good, &[]])), expected);
+    assert_eq!(printed(&log_of(&[0; 3613], &[&good[..], &[]])), expected);
+    assert_eq!(printed(&log_of(&[], &[&good[..], &[]])), expected);
     let mut rng = Rng::new(21);
     for breakage in Breakage::all() {
         let site = breakage.apply(&mut rng, &SiteSpec::default());
-        assert_eq!(printed(&with_site(&site, &[&good, &[]])), expected, "{}", breakage.name());
+        assert_eq!(printed(&log_of(&site, &[&good[..], &[]])), expected, "{}", breakage.name());
     }
 }
 
 #[test]
 fn frames_of_255_octets() {
     let expected = "frame status octets\n1 LENGTH 0\n2 LENGTH 0\nCUT\n";
-    let mut input = with_site(&SiteSpec::default().encode(), &[&[0; 255], &[0; 128]]);
+    let mut input = log_of(&SiteSpec::default().encode(), &[&[0; 255][..], &[0; 128]]);
     input.push(255);
     assert_eq!(printed(&input), expected);
 }

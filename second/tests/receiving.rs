@@ -10,14 +10,6 @@ const OWN: u64 = 0xacde_4800_0000_00aa;
 const PROBE: u64 = 0xacde_4800_0000_0001;
 const HUB: u64 = 0xacde_4800_0000_00cc;
 
-fn short(pan: u16, address: u64) -> Address {
-    Address { mode: 2, pan, address }
-}
-
-fn extended(pan: u16, address: u64) -> Address {
-    Address { mode: 3, pan, address }
-}
-
 /// A coordinator with short address 1; probe 1 has short 5 and key 0, probe 2
 /// has short 6 and key 1, the hub (short 9) has both.
 fn spec() -> SiteSpec {
@@ -54,9 +46,9 @@ fn spec() -> SiteSpec {
                 source: [1, 2, 3, 4, 5, 6, 7, 8],
                 ..Lookup::default()
             },
-            Lookup { key: 0, mode: 0, peer: short(PAN, 0xdead_0005), ..Lookup::default() },
-            Lookup { key: 0, mode: 0, peer: short(PAN, 9), ..Lookup::default() },
-            Lookup { key: 0, mode: 0, peer: extended(PAN, HUB), ..Lookup::default() },
+            Lookup { key: 0, mode: 0, peer: Address::short(PAN, 0xdead_0005), ..Lookup::default() },
+            Lookup { key: 0, mode: 0, peer: Address::short(PAN, 9), ..Lookup::default() },
+            Lookup { key: 0, mode: 0, peer: Address::extended(PAN, HUB), ..Lookup::default() },
         ],
         usages: vec![
             Usage { key: 0, kind: 1, command: 9 },
@@ -87,8 +79,8 @@ fn plain() -> Plan {
             kind: 1,
             version: 1,
             sequence: 0x6a,
-            destination: short(PAN, 1),
-            source: short(PAN, 5),
+            destination: Address::short(PAN, 1),
+            source: Address::short(PAN, 5),
             ..Header::default()
         },
         private: b"reading".to_vec(),
@@ -218,9 +210,12 @@ fn filter_rules() {
     assert_eq!(with(&site, &|header| header.destination.address = 2), 6);
     assert_eq!(with(&site, &|header| header.destination.address = 0xffff), 0);
     assert_eq!(with(&site, &|header| header.destination.address = 0xfffe), 6);
-    assert_eq!(with(&site, &|header| header.destination = extended(PAN, OWN)), 0);
-    assert_eq!(with(&site, &|header| header.destination = extended(PAN, OWN ^ 1 << 63)), 6);
-    assert_eq!(with(&site, &|header| header.destination = extended(PAN, u64::MAX)), 6);
+    assert_eq!(with(&site, &|header| header.destination = Address::extended(PAN, OWN)), 0);
+    assert_eq!(
+        with(&site, &|header| header.destination = Address::extended(PAN, OWN ^ 1 << 63)),
+        6
+    );
+    assert_eq!(with(&site, &|header| header.destination = Address::extended(PAN, u64::MAX)), 6);
     let bare = |pan| {
         move |header: &mut Header| {
             header.destination = Address::default();
@@ -407,13 +402,13 @@ fn key_by_mode_0() {
     let mut plan = plan();
     plan.security.keymode = 0;
     assert_eq!(status(&spec(), &sealed(&plan)), 0);
-    plan.header.source = extended(PAN, PROBE);
+    plan.header.source = Address::extended(PAN, PROBE);
     assert_eq!(status(&spec(), &sealed(&plan)), 11);
-    plan.header.source = short(PAN, 6);
+    plan.header.source = Address::short(PAN, 6);
     assert_eq!(status(&spec(), &sealed(&plan)), 11);
-    plan.header.source = short(PAN + 1, 5);
+    plan.header.source = Address::short(PAN + 1, 5);
     assert_eq!(status(&spec(), &sealed(&plan)), 11);
-    plan.header.source = extended(PAN, HUB);
+    plan.header.source = Address::extended(PAN, HUB);
     assert_eq!(status(&spec(), &plan.seal(&KEY, HUB)), 0);
 }
 
@@ -433,7 +428,7 @@ fn key_by_mode_1() {
 fn key_by_modes_2_and_3() {
     let spec = spec();
     let mut plan = plan();
-    plan.header.source = short(PAN, 6);
+    plan.header.source = Address::short(PAN, 6);
     plan.security.keymode = 2;
     plan.security.keysource = [1, 2, 3, 4, 0, 0, 0, 0];
     let sealed = |plan: &Plan| plan.seal(&[0x5a; 16], PROBE + 1);
@@ -482,13 +477,13 @@ fn devices_by_handles() {
     let mut spec = spec();
     let mut plan = plan();
     // Probe 2 is known but not under this key.
-    plan.header.source = short(PAN, 6);
+    plan.header.source = Address::short(PAN, 6);
     assert_eq!(status(&spec, &plan.seal(&KEY, PROBE + 1)), 13);
     spec.handles.push(Handle { key: 0, device: 1 });
     assert_eq!(received(&spec, &plan.seal(&KEY, PROBE + 1)).device, 2);
-    plan.header.source = extended(PAN, PROBE + 1);
+    plan.header.source = Address::extended(PAN, PROBE + 1);
     assert_eq!(received(&spec, &plan.seal(&KEY, PROBE + 1)).device, 2);
-    plan.header.source = extended(PAN + 1, PROBE + 1);
+    plan.header.source = Address::extended(PAN + 1, PROBE + 1);
     assert_eq!(status(&spec, &plan.seal(&KEY, PROBE + 1)), 13);
 }
 

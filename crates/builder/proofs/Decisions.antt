@@ -1,9 +1,9 @@
 -- The decision by its tests; the key lookup by the source compared; and what a decision says of the request. Assumes nothing.
 use mathlib.Core.Path.{_≡_, sym, ap, ap₂, _∙_}
 use mathlib.Core.List.{List}
-use Prim.Native.Nat.{ℕ, _+_, _*_, _/_, _≤_, _<_}
+use Prim.Native.Nat.{ℕ, _≤_}
 use native.Mathlib.Omega.{arith}
-use lib.ListN.{length, getD, drop}
+use lib.ListN.{length, drop}
 use borrow.Author.Tests.{eq-eqb, ne-eqb}
 use Rattle.meaning.specs.Octets.{part}
 use Rattle.meaning.specs.Frame.{keySourceLen}
@@ -15,7 +15,6 @@ use Rattle.meaning.specs.declared.Found.the-variants.{At, Nothing}
 use Rattle.meaning.specs.declared.Refusal.the-variants.{UnavailableKey}
 use Rattle.meaning.specs.declared.Address.{Address}
 use Rattle.meaning.specs.declared.Request.{Request}
-use Rattle.meaning.proofs.Rows.{key-below}
 use Rattle.meaning.proofs.Lists.{length-take-most}
 use Rattle.meaning.proofs.Lengths.{key-source-bound}
 use Rattle.search.specs.Rows.{keyRowBy}
@@ -46,18 +45,12 @@ module _ (b t : List ℕ) (mode index : ℕ) (given : List ℕ) (a f p : Address
   row-given n h d e = row (rw (ne-eqb mode 1 h, ← d) e)
 
 -- ---- the key
--- a record that was found stands in the table
-pub row-inside : (b t : List ℕ) (mode index : ℕ) (given : List ℕ) (p : Address) (u : Found) (i : ℕ) → u ≡ keyRow b t mode index given p → u ≡ At i → 22 * i + 22 ≤ length b
-row-inside b t mode index given p u i e h =
-    let l : i < length b / 22 = key-below b t mode index given p u i e h in
-    omega arith
-
 module _ (t b : List ℕ) (c : ℕ) (q : Request) (u : Found)
     (e : u ≡ keyRow b t (q .keymode) (q .keyindex) (q .keysource) (peerOf t (fitted (q .destination)))) (n : c ≡ 0xffff_ffff → ⊥) where
   pub chosen-none : u ≡ Nothing → Refused UnavailableKey ≡ chosen t b c q
   unfolding chosen keyed
   chosen-none h = rw (ne-eqb c 0xffff_ffff n, sym e ∙ h)
 
-  pub chosen-key : (i k : ℕ) → u ≡ At i → k ≡ getD b (22 * i) 0 → Keyed k ≡ chosen t b c q
-  unfolding chosen keyed keyOf
+  pub chosen-key : (i k : ℕ) → u ≡ At i → k ≡ keyOf b i → Keyed k ≡ chosen t b c q
+  unfolding chosen keyed
   chosen-key i k h d = rw (ne-eqb c 0xffff_ffff n, sym e ∙ h) (ap Keyed d)

@@ -54,7 +54,7 @@ pub fn put_sealed(
 {
     let schedule = aes::schedule(sbox, key);
     let tag = ccm::seal(sbox, &schedule, nonce, level, &mut d[..end], at);
-    let n = frame::tag_len(level);
+    let n = modes::tag_len(level);
     put_all(d, end, &tag[..n])
 }
 

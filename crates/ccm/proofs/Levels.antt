@@ -3,7 +3,7 @@
 use mathlib.Core.Path.{_≡_, refl, sym, ap, ap₂, _∙_}
 use mathlib.Core.Bool.{Bool, true, false}
 use mathlib.Core.List.{List, [], _++_, append-nil}
-use Prim.Native.Nat.{ℕ, _+_, _-_, _≤_, _<_}
+use Prim.Native.Nat.{ℕ, _+_, _-_, _≤_}
 use native.Mathlib.Omega.{arith}
 use lib.ListN.{length, take, drop, length-drop, take-append-drop}
 use lib.Seq.{sets, take-all, take-take, take-add, take-at, drop-length, length-take-le}
@@ -11,7 +11,7 @@ use borrow.Rule.Slice.PartMut.{putMid, post-is}
 use Rattle.meaning.specs.Octets.{pick, part, beside, same}
 use Rattle.meaning.specs.Frame.{tagLen, enciphers}
 use Rattle.meaning.specs.Ccm.{tagOf, crypt, sealedBy, sealed, unsealedBy, unsealed}
-use Rattle.meaning.proofs.Tests.{on-le, off-le}
+use Rattle.meaning.proofs.Tests.{on-by, off-by}
 use Rattle.meaning.proofs.Stores.{sets-beside, take-beside, drop-beside}
 use Rattle.meaning.proofs.Ccm.{length-crypt}
 use Rattle.ccm.specs.Tags.{wholeTag, cryptBy, tagBy, Sealing, Opening}
@@ -25,23 +25,25 @@ pub rest : (n : ℕ) (s : List ℕ) → take (length s - n) (drop n s) ≡ drop 
 rest n s = take-all (length s - n) (drop n s) (omega (arith, length-drop n s))
 
 module _ (E : List ℕ → List ℕ) (nonce : List ℕ) (l : ℕ) where
-  pub crypt-on : {r : List ℕ} (q : List ℕ) → 4 ≤ l → r ≡ crypt E nonce q → r ≡ cryptBy E nonce l q
-  unfolding cryptBy enciphers
-  crypt-on q h e = on-le 4 l _ _ _ h e
+  -- u is the callee's answer whether the level enciphers
+  module _ {r : List ℕ} (u : Bool) (d : u ≡ enciphers l) where
+    pub crypt-on : (q : List ℕ) → u ≡ true → r ≡ crypt E nonce q → r ≡ cryptBy E nonce l q
+    unfolding cryptBy
+    crypt-on q h e = on-by _ u _ _ _ d h e
 
-  pub crypt-off : (q : List ℕ) → l < 4 → q ≡ cryptBy E nonce l q
-  unfolding cryptBy enciphers
-  crypt-off q h = off-le 4 l _ _ _ h refl
+    pub crypt-off : (q : List ℕ) → u ≡ false → r ≡ q → r ≡ cryptBy E nonce l q
+    unfolding cryptBy
+    crypt-off q h e = off-by _ u _ _ _ d h e
 
-  pub tag-on : {r : List ℕ} (m : ℕ) (clear : List ℕ) (n : ℕ) (text : List ℕ) → m ≡ tagLen l → 4 ≤ l → r ≡ wholeTag E nonce m (take n clear) text
-      → r ≡ tagBy E nonce l clear n text
-  unfolding tagBy enciphers
-  tag-on m clear n text d h e = on-le 4 l _ _ _ h (rw d at e)
+    pub tag-on : (m : ℕ) (clear : List ℕ) (n : ℕ) (text : List ℕ) → m ≡ tagLen l → u ≡ true → r ≡ wholeTag E nonce m (take n clear) text
+        → r ≡ tagBy E nonce l clear n text
+    unfolding tagBy
+    tag-on m clear n text c h e = on-by _ u _ _ _ d h (rw c at e)
 
-  pub tag-off : {r : List ℕ} (m : ℕ) (clear : List ℕ) (n : ℕ) (text : List ℕ) → m ≡ tagLen l → l < 4 → r ≡ wholeTag E nonce m clear []
-      → r ≡ tagBy E nonce l clear n text
-  unfolding tagBy enciphers
-  tag-off m clear n text d h e = off-le 4 l _ _ _ h (rw d at e)
+    pub tag-off : (m : ℕ) (clear : List ℕ) (n : ℕ) (text : List ℕ) → m ≡ tagLen l → u ≡ false → r ≡ wholeTag E nonce m clear []
+        → r ≡ tagBy E nonce l clear n text
+    unfolding tagBy
+    tag-off m clear n text c h e = off-by _ u _ _ _ d h (rw c at e)
 
   length-by-level : (q : List ℕ) → length (cryptBy E nonce l q) ≡ length q
   unfolding cryptBy

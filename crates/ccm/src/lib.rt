@@ -6,17 +6,7 @@ ghost use Prim.Native.Nat.{_+_, _-_, _*_, _/_, _≤_, _<_};
 ghost use lib.ListN.{length, getD, drop};
 ghost use Rattle.meaning.specs.Sbox.{IsSbox};
 ghost use Rattle.meaning.specs.Frame.{tagLen};
-ghost use Rattle.meaning.specs.Ccm.{
-  nonceOf,
-  size16,
-  padded,
-  flagsOf,
-  firstBlock,
-  counterBlock,
-  xorBy,
-  chain as chained,
-  crypt as crypted,
-};
+ghost use Rattle.meaning.specs.Ccm.{nonceOf, size16, flagsOf, firstBlock, counterBlock, crypt as crypted};
 ghost use Rattle.aes.specs.Schedule.{cipherBy};
 ghost use Rattle.ccm.specs.Tags.{led, sum, chainOver, chainData, wholeTag, cryptBy, tagBy, Sealing, Opening};
 use aes::Schedule;
@@ -50,20 +40,6 @@ pub fn nonce(extended: u64, counter: u32, level: u8) -> [u8; 13]
         (counter % 256) as u8,
         level,
     ]
-}
-
-// The octets of a security level's tag.
-pub fn tag_len(level: u8) -> usize
-    ensures { λ r. ⌜ r ≡ tagLen level ⌝ }
-{
-    let kind = level % 4;
-    if kind == 0 {
-        return 0;
-    }
-    if kind == 1 {
-        return 4;
-    }
-    if kind == 2 { 8 } else { 16 }
 }
 
 // The tag's length as the flags hold it: 0 where there is no tag.
@@ -242,7 +218,7 @@ fn crypt_at(t: &[u8; 256], w: &Schedule, nonce: [u8; 13], level: u8, message: &m
     requires { ⌜ IsSbox (now t) ⌝ }
     ensures { λ _. ⌜ now (message .exit) ≡ cryptBy (cipherBy (now (w .entry))) nonce level (now (message .entry)) ⌝ }
 {
-    if 4 <= level {
+    if modes::enciphers(level) {
         crypt(t, w, nonce, message);
     }
 }
@@ -262,8 +238,8 @@ fn tag_at(
     requires { ⌜ length (now text) < 65536 ⌝ }
     ensures { λ r. ⌜ r ≡ tagBy (cipherBy (now (w .entry))) nonce level (now (clear .entry)) opens (now (text .entry)) ⌝ }
 {
-    let m = tag_len(level);
-    if 4 <= level {
+    let m = modes::tag_len(level);
+    if modes::enciphers(level) {
         return tag(t, w, nonce, m, &clear[..opens], text);
     }
     tag(t, w, nonce, m, clear, &clear[..0])
@@ -286,7 +262,7 @@ fn frame_tag(
 }
 
 // Seals a frame in place: its first `opens` octets are authenticated and stay, the others are the private payload, which levels 4 to 7 encipher.
-// The first `tag_len(level)` octets of the result are the tag.
+// The first `modes::tag_len(level)` octets of the result are the tag.
 pub fn seal(
     t: &[u8; 256],
     w: &Schedule,
@@ -326,6 +302,6 @@ pub fn unseal(
     octets::copy_in(scratch, 0, &body[opens..end]);
     crypt_at(t, w, nonce, level, &mut scratch[..private]);
     let sum = tag_at(t, w, nonce, level, &body[..end], opens, &scratch[..private]);
-    let m = tag_len(level);
+    let m = modes::tag_len(level);
     octets::equal(&body[end..], &sum[..m])
 }

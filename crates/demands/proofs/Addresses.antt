@@ -1,4 +1,4 @@
--- An address that was written is read again, for every address whose fields have their widths. Assumes nothing.
+-- An address that was written is read again, for every address whose fields have their widths: by its mode, each field where it stands. Assumes nothing.
 use mathlib.Core.Path.{_≡_, refl, sym, _∙_}
 use mathlib.Core.Logic.{_≢_}
 use Prim.Native.Nat.{ℕ, _+_, _^_, _<_}
@@ -60,7 +60,7 @@ module _ (a : Address) (c : Carried a) (y z : List ℕ) (at : ℕ) (long : lengt
   unfolding placedOctets
   pan-read n = rw (ne-eqb (a .mode) 0 n, append-assoc) (stands-at 2 (a .pan) y (addressOctets a ++ z) at long (c .pan))
 
-  pub address-read : a .mode ≢ 0 → leAt (addressLen (a .mode)) (y ++ (placedOctets a ++ z)) (2 + at) ≡ a .address
+  address-read : a .mode ≢ 0 → leAt (addressLen (a .mode)) (y ++ (placedOctets a ++ z)) (2 + at) ≡ a .address
   unfolding placedOctets addressOctets
   address-read n =
       rw (ne-eqb (a .mode) 0 n, append-assoc, ← append-assoc y (octs 2 (a .pan)))

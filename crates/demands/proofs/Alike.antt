@@ -26,11 +26,11 @@ module _ (s t : List ℕ) (e : take 42 s ≡ take 42 t) where
   number-same : (a : ℕ) → a + 2 ≤ 42 → leAt 2 s a ≡ leAt 2 t a
   number-same a h = sym (leAt-take 2 s 42 a h) ∙ ap (λ (r : List ℕ). leAt 2 r a) e ∙ leAt-take 2 t 42 a h
 
-  pub count-same : (k : ℕ) → k < 7 → countOf s k ≡ countOf t k
+  count-same : (k : ℕ) → k < 7 → countOf s k ≡ countOf t k
   unfolding countOf
   count-same k h = number-same (6 * k + 2) (omega arith)
 
-  pub place-same : (k : ℕ) → k < 7 → placeOf s k ≡ placeOf t k
+  place-same : (k : ℕ) → k < 7 → placeOf s k ≡ placeOf t k
   unfolding placeOf
   place-same k h = number-same (6 * k + 4) (omega arith)
 
@@ -52,11 +52,11 @@ module _ (s t : List ℕ) (e : take 42 s ≡ take 42 t) where
 
 -- ---- where the key octets stand
 module _ (s : List ℕ) (rule : siteRule s ≡ true) where
-  pub keys-at : keysAt s ≡ placeOf s 3
+  keys-at : keysAt s ≡ placeOf s 3
   unfolding keysAt
   keys-at = rw rule
 
-  pub keys-len : keysLen s ≡ 16 * countOf s 3
+  keys-len : keysLen s ≡ 16 * countOf s 3
   unfolding keysLen
   keys-len = rw rule
 
@@ -80,7 +80,7 @@ module _ (s t : List ℕ) (rule : siteRule s ≡ true) (a : AlikeSites s t) wher
   after-keys : drop (placeOf s 3 + 16 * countOf s 3) s ≡ drop (placeOf s 3 + 16 * countOf s 3) t
   after-keys = rw (keys-at s rule, keys-len s rule) at (a .after)
 
-  pub alike-contents : take 42 s ≡ take 42 t
+  alike-contents : take 42 s ≡ take 42 t
   alike-contents = take-pre (placeOf s 3) s t before-keys 42 (rule-past s rule 3 (omega arith))
 
   body-before : (k : ℕ) → k < 3 → body s k ≡ body t k

@@ -1,4 +1,4 @@
--- What the rules of status 17 say of a request that keeps them. Assumes nothing.
+-- What the rules of status 17 say of a request that keeps them: the joined tests, taken apart one by one. Assumes nothing.
 use mathlib.Core.Path.{_≡_, refl}
 use Prim.Native.Nat.{ℕ, _≤_}
 use native.Mathlib.Omega.{arith}

@@ -1,4 +1,4 @@
--- A security header that was written is measured and read again, for every level, key mode and counter. Assumes nothing.
+-- A security header that was written is measured and read again, for every level, key mode and counter: by its absence at level 0, else octet by octet. Assumes nothing.
 use mathlib.Core.Path.{_≡_, refl, sym, _∙_}
 use mathlib.Core.Logic.{_≢_}
 use Prim.Native.Nat.{ℕ, _+_, _*_, _/_, _%_, _^_, _≤_, _<_}

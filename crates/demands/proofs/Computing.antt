@@ -1,4 +1,4 @@
--- Receiving with all that it says opened, but for the cipher: a theorem that is computed names this on its `unfolding` line.
+-- Receiving with all that it says opened, but for the cipher: a theorem that is computed names this on its `unfolding` line. Assumes nothing: this is a definition.
 use mathlib.Core.List.{List}
 use Prim.Native.Nat.{ℕ}
 use Rattle.meaning.specs.Octets.{leAt, octs, same, stands, beside}

@@ -1,4 +1,4 @@
--- The header that a right request asks for can be written, and receiving finds it well formed. Assumes nothing.
+-- The header that a right request asks for can be written, and receiving finds it well formed: by the address modes that the rules leave. Assumes nothing.
 use mathlib.Core.Path.{_≡_, refl}
 use Prim.Native.Nat.{ℕ, _%_, _^_, _≤_, _<_}
 use native.Mathlib.Omega.{arith}

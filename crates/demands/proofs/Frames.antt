@@ -1,4 +1,5 @@
--- The frame that a build gives: what the receiver is shown of it, and that statuses 3, 4, 5 and 7 never strike it. Assumes nothing.
+-- The frame that a build gives: what the receiver is shown of it, and that statuses 3, 4, 5 and 7 never strike it. Each part is measured from its own
+-- first octets. Assumes nothing.
 use mathlib.Core.Path.{_≡_, refl, sym, ap, _∙_}
 use Prim.Native.Nat.{ℕ, _+_, _-_, _≤_}
 use native.Mathlib.Omega.{arith}

@@ -1,4 +1,5 @@
--- A header that was written is measured and read again, for every header whose fields have their widths. Assumes nothing.
+-- A header that was written is measured and read again, for every header whose fields have their widths: the two control octets by arithmetic, the
+-- addresses by their places. Assumes nothing.
 use mathlib.Core.Path.{_≡_, refl, sym, ap, _∙_}
 use mathlib.Core.Logic.{_≢_}
 use Prim.Native.Nat.{ℕ, _+_, _/_, _%_, _≤_, _<_}

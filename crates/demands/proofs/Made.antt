@@ -1,4 +1,4 @@
--- A build that succeeds: what its checks have found, and its frame. Assumes nothing.
+-- A build that succeeds: what its checks have found, and its frame: by going back through the checks, of which each could have refused. Assumes nothing.
 use mathlib.Core.Path.{_≡_, refl, ap, _∙_}
 use mathlib.Core.Logic.{_≢_}
 use Prim.Native.Nat.{ℕ, _≤_}

@@ -21,10 +21,10 @@ use Rattle.demands.proofs.Computing.{computed}
 abbrev pub keyA : List ℕ
 keyA = tab (λ i. 0xc0 + i) 16
 
-abbrev pub keyB : List ℕ
+abbrev keyB : List ℕ
 keyB = tab (λ i. 0x30 + i) 16
 
-abbrev pub siteOf : List ℕ → ℕ → List ℕ
+abbrev siteOf : List ℕ → ℕ → List ℕ
 siteOf key counter =
     -- table of contents
     (1 ∷ 35 ∷ 1 ∷ 0 ∷ 42 ∷ 0 ∷ 2 ∷ 17 ∷ 1 ∷ 0 ∷ 77 ∷ 0 ∷ 3 ∷ 5 ∷ 1 ∷ 0 ∷ 94 ∷ 0 ∷ 4 ∷ 16 ∷ 1 ∷ 0 ∷ 99 ∷ 0
@@ -64,21 +64,21 @@ abbrev pub spoilt : ℕ → List ℕ
 spoilt z = 0x41 ∷ 0x88 ∷ 3 ∷ 0x21 ∷ 0x43 ∷ 1 ∷ 0 ∷ 2 ∷ 0 ∷ 7 ∷ z ∷ z ∷ []
 
 -- secured at a level, with a counter; after the open octets q has the private payload and the tag
-abbrev pub secured : ℕ → ℕ → List ℕ → List ℕ
+abbrev secured : ℕ → ℕ → List ℕ → List ℕ
 secured level counter q =
     withFcs (0x09 ∷ 0x18 ∷ 5 ∷ 0x21 ∷ 0x43 ∷ 1 ∷ 0 ∷ (level + 8) ∷ counter ∷ 0 ∷ 0 ∷ 0 ∷ 7 ∷ q)
 
 abbrev pub lateA : List ℕ
 lateA = secured 6 4 (1 ∷ 2 ∷ 3 ∷ 4 ∷ 5 ∷ 6 ∷ 7 ∷ 8 ∷ 9 ∷ [])
 
-abbrev pub lateB : List ℕ
+abbrev lateB : List ℕ
 lateB = secured 6 4 (9 ∷ 8 ∷ 7 ∷ 6 ∷ 5 ∷ 4 ∷ 3 ∷ 2 ∷ 1 ∷ [])
 
 -- level 4: enciphered, without a tag
 abbrev pub untaggedA : List ℕ
 untaggedA = secured 4 5 (1 ∷ 2 ∷ [])
 
-abbrev pub untaggedB : List ℕ
+abbrev untaggedB : List ℕ
 untaggedB = secured 4 5 (3 ∷ 4 ∷ [])
 
 abbrev pub framesA : List (List ℕ)
@@ -106,7 +106,7 @@ pair s t f g o p fs gs x y ex ey e l w c rest = (
 abbrev pub outA : List ℕ
 outA = 1 ∷ 2 ∷ 3 ∷ replicate 124 0
 
-abbrev pub outB : List ℕ
+abbrev outB : List ℕ
 outB = 4 ∷ 5 ∷ 6 ∷ replicate 124 0
 
 -- accepted at a level, by a device, with the private octets q
@@ -117,7 +117,7 @@ pub plain-A : received siteA (plain (1 ∷ 2 ∷ 3 ∷ [])) empty ≡ took siteA
 unfolding computed
 plain-A = refl
 
-pub plain-B : received siteB (plain (4 ∷ 5 ∷ 6 ∷ [])) empty ≡ took siteB (plain (4 ∷ 5 ∷ 6 ∷ [])) empty 0 0 (4 ∷ 5 ∷ 6 ∷ []) keep
+plain-B : received siteB (plain (4 ∷ 5 ∷ 6 ∷ [])) empty ≡ took siteB (plain (4 ∷ 5 ∷ 6 ∷ [])) empty 0 0 (4 ∷ 5 ∷ 6 ∷ []) keep
 unfolding computed
 plain-B = refl
 
@@ -125,7 +125,7 @@ pub strange-A : received siteA strange outA ≡ outcome (refusal Filtered) siteA
 unfolding computed
 strange-A = refl
 
-pub strange-B : received siteB strange outB ≡ outcome (refusal Filtered) siteB outB
+strange-B : received siteB strange outB ≡ outcome (refusal Filtered) siteB outB
 unfolding computed
 strange-B = refl
 
@@ -133,7 +133,7 @@ pub spoilt-A : received siteA (spoilt 0) outA ≡ outcome (refusal Fcs) siteA ou
 unfolding computed
 spoilt-A = refl
 
-pub spoilt-B : received siteB (spoilt 1) outB ≡ outcome (refusal Fcs) siteB outB
+spoilt-B : received siteB (spoilt 1) outB ≡ outcome (refusal Fcs) siteB outB
 unfolding computed
 spoilt-B = refl
 
@@ -141,7 +141,7 @@ pub late-A : received siteA lateA outA ≡ outcome (refusal CounterError) siteA 
 unfolding computed
 late-A = refl
 
-pub late-B : received siteB lateB outB ≡ outcome (refusal CounterError) siteB outB
+late-B : received siteB lateB outB ≡ outcome (refusal CounterError) siteB outB
 unfolding computed
 late-B = refl
 
@@ -153,7 +153,7 @@ pub untagged-A : received siteA untaggedA outA ≡ took siteA untaggedA outA 4 1
 unfolding computed
 untagged-A = refl
 
-pub untagged-B : received siteB untaggedB outB ≡ took siteB untaggedB outB 4 1 (text keyB untaggedB) (raise 0 0 5)
+untagged-B : received siteB untaggedB outB ≡ took siteB untaggedB outB 4 1 (text keyB untaggedB) (raise 0 0 5)
 unfolding computed
 untagged-B = refl
 

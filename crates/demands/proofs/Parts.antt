@@ -1,4 +1,5 @@
--- The parts of a built frame, with and without security at once, and their lengths. Assumes nothing.
+-- The parts of a built frame, with and without security at once, and their lengths: at level 0 the private payload stands as it is, with an empty tag.
+-- Assumes nothing.
 use mathlib.Core.Path.{_≡_, refl, sym, ap, _∙_}
 use mathlib.Core.Logic.{_≢_}
 use Prim.Native.Nat.{ℕ}

@@ -1,4 +1,4 @@
--- Where the parts of a built frame stand. Assumes nothing.
+-- Where the parts of a built frame stand: by their lengths. Assumes nothing.
 use mathlib.Core.Path.{_≡_, refl, sym, ap, _∙_}
 use Prim.Native.Nat.{ℕ, _+_, _≤_}
 use native.Mathlib.Omega.{arith}

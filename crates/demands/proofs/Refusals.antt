@@ -81,7 +81,7 @@ listed r =
 
 -- ---- receiving
 -- a success, or a refusal that leaves site and output as they were and says zero elsewhere
-pub data Ends (s o : List ℕ) : Outcome → Type 0 where
+data Ends (s o : List ℕ) : Outcome → Type 0 where
   well : {x : Outcome} → x .answer .status ≡ 0 → Ends s o x
   refused : (r : Refusal) → Ends s o (outcome (refusal r) s o)
 
@@ -115,7 +115,7 @@ unfolding write
 written s o (refuse r) h = refused r
 written s o (accept a p r) h = well h
 
-pub receiving-ends : (s f o : List ℕ) → Ends s o (received s f o)
+receiving-ends : (s f o : List ℕ) → Ends s o (received s f o)
 unfolding received receivedValid
 receiving-ends s f o = by (siteRule s)
   where
@@ -145,7 +145,7 @@ status-at-most-17 s f o =
     elim (one-listed-status s f o) [ inl e ↦ omega arith | inr w ↦ omega (arith, w .1, listed (w .0)) ]
 
 -- ---- building
-pub data Finishes (s out : List ℕ) : Construction → Type 0 where
+data Finishes (s out : List ℕ) : Construction → Type 0 where
   done : {x : Construction} → x .answer .status ≡ 0 → Finishes s out x
   declined : (r : Refusal) → Finishes s out (construction (record { status = number r; len = 0 }) s out)
 
@@ -154,7 +154,7 @@ unfolding laid
 placed s out (build.refuse r) = declined r
 placed s out (build.frame f up) = done refl
 
-pub building-finishes : (s : List ℕ) (q : Request) (o p out : List ℕ) → Finishes s out (built s q o p out)
+building-finishes : (s : List ℕ) (q : Request) (o p out : List ℕ) → Finishes s out (built s q o p out)
 unfolding built builtValid
 building-finishes s q o p out = by (siteRule s)
   where

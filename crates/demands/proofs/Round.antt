@@ -1,4 +1,5 @@
--- Demand 2's round trip: a frame that was built comes back, for every level, key mode, address form and length at once. Assumes nothing.
+-- Demand 2's round trip: a frame that was built comes back, for every level, key mode, address form and length at once. Its parts are read back as
+-- they were laid, and unsealing opens what was sealed. Assumes nothing.
 use mathlib.Core.Path.{_≡_, ap, _∙_}
 use Prim.Native.Nat.{ℕ, zero, suc, _+_, _*_, _^_, _<_}
 use native.Mathlib.Omega.{arith}

@@ -1,4 +1,4 @@
--- The verdict on a built frame that is admitted: its report, its private payload, its counter. Assumes nothing.
+-- The verdict on a built frame that is admitted: its report, its private payload, its counter. Unsealing opens what was sealed. Assumes nothing.
 use mathlib.Core.Path.{_≡_, refl, sym, ap, _∙_}
 use mathlib.Core.Logic.{_≢_}
 use Prim.Native.Nat.{ℕ, suc, _^_, _≤_, _<_}

@@ -35,8 +35,9 @@ module _ {hs : List ℕ} {key from m i : ℕ} where
   pub one-more : {u : ℕ} → Further hs key from m i → i < m → u ≡ getD hs (2 * i) 0 → (u ≡ key → ⊥) → Further hs key from m (i + 1)
   one-more {u} f l d e = record { same = f .same ∙ step (isHandle hs key) (trial hs) over m i l ∙ rw (ne-by (getD hs (2 * i) 0) key u d e) }
 
-  pub this-one : {u : ℕ} (x : ℕ) → Further hs key from m i → i < m → u ≡ getD hs (2 * i) 0 → u ≡ key → x ≡ deviceOf hs i
+  pub this-one : {u : ℕ} (x : ℕ) → Further hs key from m i → i < m → u ≡ getD hs (2 * i) 0 → u ≡ key → x ≡ handleOf hs i
       → _≡_ {A = Trial} (record { more = true; found = false; at = i; device = x }) (handleFrom hs key from)
+  unfolding handleOf
   this-one {u} x f l d e x-is =
       ap (λ (y : ℕ). record { more = true; found = false; at = i; device = y }) x-is
       ∙ sym (f .same ∙ step (isHandle hs key) (trial hs) over m i l ∙ rw (eq-by (getD hs (2 * i) 0) key u d e))

@@ -9,7 +9,7 @@ ghost use Prim.Native.Nat.{ℕ, _+_, _*_, _/_, _≤_, _<_};
 ghost use lib.ListN.{length, getD};
 ghost use Rattle.meaning.specs.Octets.{tab};
 ghost use Rattle.meaning.specs.Site.{records, deviceAt};
-ghost use Rattle.meaning.specs.Steps.{isPeer, noDevice, handleRow};
+ghost use Rattle.meaning.specs.Steps.{noDevice, handleRow};
 ghost use Rattle.devices.specs.Devices.{handleFrom, triedOf, answerOf, devicesOf, devicesIn};
 
 // Whose record is sought, by which key.
@@ -26,25 +26,6 @@ pub struct Trial {
     pub device: usize,
 }
 
-// The device is the peer: PAN and address are its, in the address form given.
-pub fn is_peer(d: Device, p: Address) -> bool
-    ensures { λ r. ⌜ r ≡ isPeer p d ⌝ }
-{
-    if p.mode == 2 {
-        if d.short as u64 != p.address {
-            return false;
-        }
-        return d.pan == p.pan;
-    }
-    if p.mode == 3 {
-        if d.extended != p.address {
-            return false;
-        }
-        return d.pan == p.pan;
-    }
-    false
-}
-
 // The search of the handle table: the first handle of the key, from a number on.
 pub fn handle_from(handles: &[u8], key: usize, from: usize) -> Trial
     ensures { λ r. ⌜ r ≡ handleFrom (now (handles .entry)) key from ⌝ }
@@ -52,13 +33,12 @@ pub fn handle_from(handles: &[u8], key: usize, from: usize) -> Trial
     let n = handles.len() / 2;
     let mut j = from;
     while j < n {
-        let at = 2 * j;
-        if octets::wide(handles[at]) == key {
+        if octets::wide(handles[2 * j]) == key {
             return Trial {
                 more: true,
                 found: false,
                 at: j,
-                device: octets::wide(handles[at + 1]),
+                device: search::device_of(handles, j),
             };
         }
         j += 1;
@@ -76,7 +56,7 @@ pub fn tried(handles: &[u8], s: Sought, t: Trial, d: Device) -> Trial
     requires { ⌜ t .at < length (now handles) ⌝ }
     ensures { λ r. ⌜ r ≡ triedOf (now (handles .entry)) s t d ⌝ }
 {
-    if is_peer(d, s.peer) {
+    if search::is_peer(d, s.peer) {
         return Trial {
             more: false,
             found: true,

@@ -4,28 +4,16 @@ use crate::control::destination_mode;
 use crate::control::security_of;
 use crate::control::source_mode;
 use crate::control::type_of;
-use crate::levels::tag_len;
 use crate::security::key_id_len;
 use meaning::Cuts;
+use modes::address_len;
+use modes::tag_len;
 ghost use mathlib.Core.Path.{_≡_};
 ghost use Prim.Native.Nat.{_+_, _^_, _<_};
 ghost use lib.ListN.{drop};
 ghost use lib.Dec.{leb};
 ghost use Rattle.meaning.specs.Octets.{part};
-ghost use Rattle.meaning.specs.Frame.{addressLen, destinationLen, sourceLen, headM, auxM, gtsLen, pendingLen, pendingSum, beaconM, openM, cutsOf, levelOf, tagLen, openEnd, pendingRight};
-
-// The octets of an address, by its mode.
-pub fn address_len(mode: u8) -> usize
-    ensures { λ r. ⌜ r ≡ addressLen mode ⌝ }
-{
-    if mode == 2 {
-        return 2;
-    }
-    if mode == 3 {
-        return 8;
-    }
-    0
-}
+ghost use Rattle.meaning.specs.Frame.{destinationLen, sourceLen, headM, auxM, gtsLen, pendingLen, pendingSum, beaconM, openM, cutsOf, levelOf, tagLen, openEnd, pendingRight};
 
 // The octets of destination PAN and address.
 pub fn destination_len(h: &[u8]) -> usize

@@ -1,15 +1,13 @@
-// Dividing a frame (standard 5.2, 7.4), its header and security header, the security levels and the filter.
+// Dividing a frame (standard 5.2, 7.4), its header and security header, and the filter.
 // No function changes what it is lent; reading past the end of a slice gives 0, as the definitions say.
 // Clients cite specs/Frame.antt, Filter.antt and Steps.antt of the meaning; openPayload is of specs/Parts.antt here.
 mod control;
 mod division;
 mod filter;
 mod header;
-mod levels;
 mod parts;
 mod security;
 
-pub use division::address_len;
 pub use division::body_fits;
 pub use division::cuts;
 pub use division::level_in;
@@ -19,9 +17,6 @@ pub use filter::cause;
 pub use header::header_right;
 pub use header::read_header;
 pub use header::shape_right;
-pub use levels::Level;
-pub use levels::at_least;
-pub use levels::tag_len;
 pub use parts::divides;
 pub use parts::open_payload;
 pub use parts::part_of;

@@ -11,8 +11,8 @@ use borrow.Author.Tests.{lt-ltb, le-ltb, ltb-false}
 use Rattle.meaning.proofs.Scan.{pick-all}
 use Rattle.meaning.specs.Octets.{leAt}
 use Rattle.log.specs.Opening.{openingOf, openingSized}
-use Rattle.log.specs.declared.Opening.{Opening}
-use Rattle.log.specs.declared.Opening.the-variants.{Cut, Long, Site}
+use Rattle.log.specs.declared.input.Opening.{Opening}
+use Rattle.log.specs.declared.input.Opening.the-variants.{Cut, Long, Site}
 
 module _ (b : List ℕ) (have : ℕ) (fit : have ≤ length b) where
   pub opening-empty : have < 2 → Cut ≡ openingOf (take have b)

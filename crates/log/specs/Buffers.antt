@@ -16,9 +16,9 @@ use Rattle.meaning.specs.Site.{siteRule}
 use Rattle.meaning.specs.Receive.{received}
 use Rattle.lines.specs.Text.{Put, lineOf}
 use Rattle.lines.specs.Log.{printedFrom, ending}
-use Rattle.log.specs.declared.Place.{Place}
-use Rattle.log.specs.declared.Reply.{Reply}
-use Rattle.log.specs.declared.Progress.{Progress}
+use Rattle.log.specs.declared.input.Place.{Place}
+use Rattle.log.specs.declared.frames.Reply.{Reply}
+use Rattle.log.specs.declared.frames.Progress.{Progress}
 
 -- between at and have
 abbrev pub hand : List ℕ → ℕ → ℕ → List ℕ

@@ -4,8 +4,8 @@ use Prim.Native.Nat.{ℕ, _-_}
 use lib.Dec.{ltb}
 use lib.ListN.{length}
 use Rattle.meaning.specs.Octets.{pick, leAt}
-use Rattle.log.specs.declared.Opening.{Opening}
-use Rattle.log.specs.declared.Opening.the-variants.{Cut, Long, Site}
+use Rattle.log.specs.declared.input.Opening.{Opening}
+use Rattle.log.specs.declared.input.Opening.the-variants.{Cut, Long, Site}
 
 -- of an input whose first two octets say n
 unfoldable pub openingSized : ℕ → List ℕ → Opening

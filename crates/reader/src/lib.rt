@@ -2,12 +2,12 @@
 // Octets past the end read as 0, so a place past the end is as good as any other. No function changes what it is lent.
 // Clients call `read_fields`, whose parameters are plain, and cite specs/Fields.antt.
 use meaning::Address;
+use modes::address_len;
 ghost use mathlib.Core.Path.{_≡_};
 ghost use Prim.Native.Nat.{_<_, _%_};
 ghost use lib.ListN.{length};
 ghost use lib.Dec.{eqb};
 ghost use Rattle.meaning.specs.Octets.{pick};
-ghost use Rattle.meaning.specs.Frame.{addressLen};
 ghost use Rattle.reader.specs.Fields.{numberAt, fieldAt, readerAt, panLen, widthsOf, rawOf, addressOf, fieldsOf};
 
 // A field that was read: its number, and the place after it.
@@ -127,19 +127,6 @@ pub fn read_raw(head: &[u8], w: Widths) -> Raw
     }
 }
 
-// The octets of an address, by its mode.
-fn address_len(mode: u8) -> usize
-    ensures { λ r. ⌜ r ≡ addressLen mode ⌝ }
-{
-    if mode == 2 {
-        return 2;
-    }
-    if mode == 3 {
-        return 8;
-    }
-    0
-}
-
 // The octets of a PAN, by its address's mode; compression drops it.
 fn pan_len(mode: u8, compression: u8) -> usize
     ensures { λ r. ⌜ r ≡ panLen mode compression ⌝ }
@@ -182,11 +169,7 @@ fn address_of(mode: u8, pan: u64, number: u64) -> Address
     ensures { λ r. ⌜ r ≡ addressOf mode pan number ⌝ }
 {
     if mode == 0 {
-        return Address {
-            mode: 0,
-            pan: 0,
-            address: 0,
-        };
+        return modes::absent();
     }
     Address {
         mode: mode,

@@ -2,7 +2,7 @@
 use mathlib.Core.Path.{_≡_, refl, ap, sym, _∙_}
 use mathlib.Core.Bool.{Bool, true, false, _&&_, _||_, not}
 use mathlib.Core.List.{List}
-use Prim.Native.Nat.{ℕ, _+_, _-_, _*_, _/_, _%_, _≤_, _<_}
+use Prim.Native.Nat.{ℕ, _+_, _-_, _*_, _/_, _≤_, _<_}
 use native.Mathlib.Nat.{mul-div-cancel-left}
 use native.Mathlib.Omega.{arith}
 use lib.ListN.{length, getD, drop}
@@ -174,10 +174,6 @@ unfolding onSecurity tablesOf
 by-security s st h xs os l on z a e f g = g ∙ rw (f, a, e)
 
 -- ---- fields
-pub by-on : (t : List ℕ) (x : ℕ) → x ≡ getD t 30 0 → eqb (x % 2) 1 ≡ securityOn t
-unfolding securityOn
-by-on t x e = rw e
-
 -- the exempt test, by the device read
 pub on-exempt : (ds : List ℕ) (d : ℕ) (x : Device) → x ≡ deviceAt ds d → x .exempt ≡ 1 → Plain ≡ check (eqb (deviceAt ds d .exempt) 1) ImproperSecurityLevel Plain
 unfolding check

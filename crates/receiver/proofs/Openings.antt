@@ -1,40 +1,25 @@
 -- What unsealing gives is what the meaning opens: the schedule is the key's, and the parts are the frame's. Assumes nothing.
-use mathlib.Core.Path.{_≡_, refl, ap, sym, _∙_}
-use mathlib.Core.Bool.{Bool, true}
+use mathlib.Core.Path.{_≡_, ap, _∙_}
+use mathlib.Core.Bool.{Bool}
 use mathlib.Core.List.{List}
-use Prim.Native.Nat.{ℕ, _+_, _-_, _*_, _≤_, _<_}
+use Prim.Native.Nat.{ℕ, _+_, _-_, _≤_, _<_}
 use native.Mathlib.Omega.{arith}
-use mir.Syntax.{w64}
-use mir.Val.{Fits}
-use lib.ListN.{length, length-take, length-drop}
+use lib.ListN.{length}
 use Rattle.meaning.specs.Octets.{part}
 use Rattle.meaning.specs.Frame.{levelOf, counterOf, tagLen, cutsOf, view, openEnd, privateLen}
-use Rattle.meaning.specs.Site.{widthOf, limitOf, countOf, body, siteRule, deviceAt, keyAt}
+use Rattle.meaning.specs.Site.{body, deviceAt, keyAt}
 use Rattle.meaning.specs.Cipher.{cipher}
-use Rattle.meaning.specs.Ccm.{nonceOf, unsealed}
+use Rattle.meaning.specs.Ccm.{nonceOf}
 use Rattle.meaning.specs.Receive.{privateOf, opened}
 use Rattle.meaning.specs.declared.Cuts.{Cuts}
-use Rattle.meaning.proofs.Sites.{length-body, rule-limit}
 use Rattle.aes.specs.Schedule.{scheduled, cipherBy}
 use Rattle.aes.proofs.Laws.{by-schedule}
 use Rattle.ccm.specs.Tags.{Opening}
 use Rattle.receiver.specs.Parts.{Unsecured, OpenedWith, nonceIn, keyOfSite, extendedOf}
 use Rattle.receiver.proofs.Bodies.{view-aux, view-cuts, view-size}
 
--- a key of the table has sixteen octets
-pub key-long : (s ks kb : List ℕ) (k : ℕ) → siteRule s ≡ true → k < countOf s 3 → ks ≡ body s 3 → kb ≡ part (16 * k) 16 ks → length kb ≡ 16
-unfolding widthOf
-key-long s ks kb k rule h a e =
-    let n : length (body s 3) ≡ 16 * countOf s 3 = length-body s rule 3 (omega arith) in
-    rw (e, a) (simp (length-take, length-drop) (omega arith))
-
 pub body-small : (b : List ℕ) → length b ≤ 125 → length b < 65280
 body-small b h = omega arith
-
--- its place is a machine number
-pub key-fits : (s : List ℕ) (k : ℕ) → siteRule s ≡ true → k < countOf s 3 → Fits w64 (16 * k)
-unfolding limitOf
-key-fits s k rule h = omega (arith, rule-limit s rule 3 (omega arith))
 
 -- the cipher by the schedule of a key
 same-cipher : (key : List ℕ) → cipherBy (scheduled key) ≡ cipher key
@@ -85,12 +70,11 @@ module _ (b : List ℕ) (c : Cuts) (l tag : ℕ) (e : c ≡ cutsOf b) (a : l ≡
       record { verdict = z .right; text = z .text }
 
 -- ---- the key
-pub by-key : (s b : List ℕ) (k d : ℕ) (ks kb w nonce scratch exit : List ℕ) (r : Bool)
-    → ks ≡ body s 3 → kb ≡ part (16 * k) 16 ks → w ≡ scheduled kb → nonce ≡ nonceIn s b d → OpenedWith (cipherBy w) nonce b scratch r exit
+pub by-key : (s b : List ℕ) (k d : ℕ) (key w nonce scratch exit : List ℕ) (r : Bool)
+    → key ≡ keyAt (body s 3) k → w ≡ scheduled key → nonce ≡ nonceIn s b d → OpenedWith (cipherBy w) nonce b scratch r exit
     → Unsecured (keyOfSite s k) (extendedOf s d) b scratch r exit
-unfolding opened keyOfSite keyAt nonceIn
-by-key s b k d ks kb w nonce scratch exit r o p q x y =
-    let key : kb ≡ part (16 * k) 16 (body s 3) = rw (← o) p in
-    let E : cipherBy w ≡ cipher (part (16 * k) 16 (body s 3)) = rw q (same-cipher kb) ∙ ap cipher key in
-    let z : OpenedWith (cipher (part (16 * k) 16 (body s 3))) (nonceOf (extendedOf s d) (counterOf (view b .aux)) (levelOf (view b .aux))) b scratch r exit = rw (← E, ← x) y in
+unfolding opened keyOfSite nonceIn
+by-key s b k d key w nonce scratch exit r p q x y =
+    let E : cipherBy w ≡ cipher (keyAt (body s 3) k) = rw q (same-cipher key) ∙ ap cipher p in
+    let z : OpenedWith (cipher (keyAt (body s 3) k)) (nonceOf (extendedOf s d) (counterOf (view b .aux)) (levelOf (view b .aux))) b scratch r exit = rw (← E, ← x) y in
     record { verdict = z .verdict; text = z .text }

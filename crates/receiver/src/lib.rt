@@ -13,7 +13,6 @@ ghost use Rattle.meaning.specs.Room.{Fits};
 ghost use Rattle.aes.specs.Schedule.{cipherBy};
 ghost use Rattle.receiver.specs.Parts.{Plainly, Unsecured, OpenedWith, nonceIn, keyMode, keyOfSite, extendedOf, committed, unlocked, settled};
 use aes::Schedule;
-use meaning::Address;
 use meaning::Cuts;
 use meaning::Header;
 use meaning::Judged;
@@ -26,11 +25,7 @@ mod stages;
 fn refused(r: Refusal) -> Received
     ensures { λ a. ⌜ a ≡ refusal r ⌝ }
 {
-    let none = Address {
-        mode: 0,
-        pan: 0,
-        address: 0,
-    };
+    let none = modes::absent();
     let blank = Header {
         kind: 0,
         security: 0,
@@ -86,7 +81,7 @@ fn accepted(body: &[u8], device: usize) -> Received
         level: level,
         keymode: key_mode(level, frame::mode_of(aux)),
         device: device,
-        private: body.len() - (start + c.opens) - frame::tag_len(level),
+        private: body.len() - (start + c.opens) - modes::tag_len(level),
         start: start,
         len: c.opens,
     }
@@ -141,7 +136,7 @@ fn open_with(
     let c = frame::cuts(body);
     let opens = c.head + c.aux + c.opens;
     let level = frame::level_in(body, c);
-    let private = body.len() - opens - frame::tag_len(level);
+    let private = body.len() - opens - modes::tag_len(level);
     ccm::unseal(sbox, w, nonce, level, body, opens, private, scratch)
 }
 
@@ -163,8 +158,8 @@ fn unsecure(
     requires { ⌜ 125 ≤ length (now scratch) ⌝ }
     ensures { λ r. ⌜ Unsecured (keyOfSite (now (site .entry)) key) (extendedOf (now (site .entry)) device) (now (body .entry)) (now (scratch .entry)) r (now (scratch .exit)) ⌝ }
 {
-    let octets = frame::part_of(site::table(site, 3), 16 * key, 16);
-    let w = aes::schedule(sbox, octets);
+    let octets = site::key_of(site, key);
+    let w = aes::schedule(sbox, &octets);
     open_with(sbox, &w, nonce_of(site, body, device), body, scratch)
 }
 

@@ -1,12 +1,11 @@
 // Statuses 2 to 13, a stage a function, each ending in the next. Nothing here reads a key, a counter, the private payload or the tag.
 ghost use mathlib.Core.Path.{_≡_};
 ghost use mathlib.Core.Bool.{true, _&&_};
-ghost use Prim.Native.Nat.{_+_, _*_, _≤_, _<_};
+ghost use Prim.Native.Nat.{_+_, _<_};
 ghost use lib.Dec.{eqb};
 ghost use Rattle.meaning.specs.Fcs.{IsTable};
 ghost use Rattle.meaning.specs.Frame.{cutsOf, view};
-ghost use Rattle.meaning.specs.Site.{records, countOf, securityOn, siteRule, tablesOf};
-ghost use Rattle.meaning.specs.Steps.{handleOf, keyOf};
+ghost use Rattle.meaning.specs.Site.{countOf, siteRule, tablesOf};
 ghost use Rattle.meaning.specs.Receive.{
   onDevice,
   onUse,
@@ -25,29 +24,6 @@ use meaning::Header;
 use meaning::Judged;
 use meaning::Refusal;
 
-// The device that handle j names.
-fn device_of(handles: &[u8], j: usize) -> usize
-    requires { ⌜ j < records 2 (now handles) ⌝ }
-    ensures { λ r. ⌜ r ≡ handleOf (now (handles .entry)) j ⌝ }
-{
-    octets::wide(handles[2 * j + 1])
-}
-
-// The key that lookup record i names.
-fn key_of(lookups: &[u8], i: usize) -> usize
-    requires { ⌜ i < records 22 (now lookups) ⌝ }
-    ensures { λ r. ⌜ r ≡ keyOf (now (lookups .entry)) i ⌝ }
-{
-    octets::wide(lookups[22 * i])
-}
-
-// Security is enabled in the settings.
-fn security_on(settings: &[u8]) -> bool
-    ensures { λ r. ⌜ r ≡ securityOn (now (settings .entry)) ⌝ }
-{
-    octets::octet(settings, 30) % 2 == 1
-}
-
 // 13: the device, through the key's handles in their order.
 fn on_device(site: &[u8], h: Header, key: usize) -> Judged
     requires { ⌜ siteRule (now site) ≡ true ⌝ }
@@ -59,7 +35,7 @@ fn on_device(site: &[u8], h: Header, key: usize) -> Judged
     let Found::At(j) = search::handle_row(handles, site::table(site, 1), key, peer) else {
         return Judged::Refused(Refusal::UnavailableDevice);
     };
-    Judged::Secure(key, j, device_of(handles, j))
+    Judged::Secure(key, j, search::device_of(handles, j))
 }
 
 // 12: a usage record of the key.
@@ -92,7 +68,7 @@ fn on_key<'a>(site: &'a [u8], h: Header, aux: &'a [u8], opens: &[u8]) -> Judged
     let Found::At(i) = search::key_row(lookups, mode, frame::key_index(aux), given, peer) else {
         return Judged::Refused(Refusal::UnavailableKey);
     };
-    on_use(site, h, opens, key_of(lookups, i))
+    on_use(site, h, opens, search::key_of(lookups, i))
 }
 
 // Level 0 with override: the source's device among all must be exempt.
@@ -153,7 +129,7 @@ fn on_security<'a>(site: &'a [u8], h: Header, aux: &'a [u8], opens: &[u8]) -> Ju
     ensures { λ r. ⌜ r ≡ onSecurity (tablesOf (now (site .entry))) h (now (aux .entry)) (now (opens .entry)) ⌝ }
 {
     let level = frame::level_of(aux);
-    let on = security_on(site::settings(site));
+    let on = site::security_on(site::settings(site));
     if level == 0 {
         if h.security == 1 {
             return Judged::Refused(Refusal::UnsupportedSecurity);

@@ -38,7 +38,7 @@ deviceRow-tab b n p =
     (λ d l. ap (isPeer p) (getD-tab (deviceAt b) noDevice n d l)))
 
 pub handleRow-tab : (b devices : List ℕ) (n k : ℕ) (p : Address) → ((j : ℕ) → j < records 2 b → getD b (2 * j + 1) 0 < n)
-    → handleRow b (tab (deviceAt devices) n) k p ≡ first (λ j. eqb (getD b (2 * j) 0) k && isPeer p (deviceAt devices (getD b (2 * j + 1) 0))) At Nothing (records 2 b)
+    → handleRow b (tab (deviceAt devices) n) k p ≡ first (λ j. eqb (getD b (2 * j) 0) k && isPeer p (deviceAt devices (handleOf b j))) At Nothing (records 2 b)
 unfolding handleRow handleOf
 handleRow-tab b devices n k p h =
     first-same
@@ -51,9 +51,18 @@ handleRow-tab b devices n k p h =
 pub device-below-tab : (b : List ℕ) (n : ℕ) (p : Address) (u : Found) (d : ℕ) → u ≡ deviceRow (tab (deviceAt b) n) p → u ≡ At d → d < n
 device-below-tab b n p u d e h = rw (length-tab (deviceAt b) n) at (device-below (tab (deviceAt b) n) p u d e h)
 
--- what a callee says of device u, where u is read as d
-pub peer-by : (p : Address) (devices : List ℕ) (d u : ℕ) (r z : Bool) → u ≡ d → r ≡ isPeer p (deviceAt devices u) → r ≡ z → isPeer p (deviceAt devices d) ≡ z
-peer-by p devices d u r z e h k = rw e at (sym h) ∙ k
+-- what callees say of device u: x is its record, r whether that is the peer's; u is read as d
+pub peer-by : (p : Address) (devices : List ℕ) (d u : ℕ) (x : Device) (r z : Bool) → u ≡ d → x ≡ deviceAt devices u → r ≡ isPeer p x → r ≡ z → isPeer p (deviceAt devices d) ≡ z
+peer-by p devices d u x r z e f h k = rw (f, e) at (sym h) ∙ k
+
+pub peer-at : (p : Address) (devices : List ℕ) (d : ℕ) (x : Device) (r z : Bool) → x ≡ deviceAt devices d → r ≡ isPeer p x → r ≡ z → isPeer p (deviceAt devices d) ≡ z
+peer-at p devices d x r z f h k = peer-by p devices d d x r z refl f h k
+
+-- a device that a handle of the table names is there
+pub handle-in : (b devices : List ℕ) (j u : ℕ) → ((j : ℕ) → j < records 2 b → getD b (2 * j + 1) 0 < records 17 devices) → j < records 2 b → u ≡ handleOf b j
+    → u < records 17 devices
+unfolding handleOf
+handle-in b devices j u h l e = rw e (h j l)
 
 -- ---- keys
 pub keyRow-by : (b t : List ℕ) (mode index : ℕ) (given : List ℕ) (p : Address)

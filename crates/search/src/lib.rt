@@ -9,7 +9,6 @@ ghost use Prim.Native.Nat.{ℕ, _+_, _*_, _/_, _%_, _^_, _≤_, _<_};
 ghost use lib.ListN.{length, getD};
 ghost use lib.Dec.{eqb};
 ghost use Rattle.meaning.specs.Octets.{octs, tab};
-ghost use Rattle.meaning.specs.Frame.{addressLen, atLeast};
 ghost use Rattle.meaning.specs.Site.{records, deviceAt};
 ghost use Rattle.meaning.specs.Steps.{
   fits,
@@ -21,7 +20,9 @@ ghost use Rattle.meaning.specs.Steps.{
   isPeer,
   deviceRow,
   lookupRow,
+  keyOf,
   usageRow,
+  handleOf,
   handleRow,
 };
 ghost use Rattle.search.specs.Rows.{keyRowBy, implicitRow};
@@ -55,16 +56,6 @@ pub fn level_row(levels: &[u8], kind: u8, command: u8) -> Found
     Found::Nothing
 }
 
-// a is at least b, in both orders of the levels.
-fn at_least(a: u8, b: u8) -> bool
-    ensures { λ r. ⌜ r ≡ atLeast a b ⌝ }
-{
-    if a / 4 < b / 4 {
-        return false;
-    }
-    b % 4 <= a % 4
-}
-
 // The level's bit is set.
 fn allowed(set: u8, level: u8) -> bool
     requires { ⌜ level < 8 ⌝ }
@@ -80,7 +71,7 @@ pub fn passes(levels: &[u8], i: usize, level: u8) -> bool
 {
     let at = 5 * i;
     if levels[at + 4] == 0 {
-        return at_least(level, levels[at + 2]);
+        return modes::at_least(level, levels[at + 2]);
     }
     allowed(levels[at + 4], level)
 }
@@ -99,11 +90,7 @@ pub fn stand_in(settings: &[u8]) -> Address
 {
     let short = octets::number16(settings, 12);
     if short == 0xffff {
-        return Address {
-            mode: 0,
-            pan: 0,
-            address: 0,
-        };
+        return modes::absent();
     }
     let pan = octets::number16(settings, 0);
     if short == 0xfffe {
@@ -144,23 +131,21 @@ pub fn device_at(devices: &[u8], d: usize) -> Device
     }
 }
 
-// Device record d is the peer's. Its address is read in the peer's form alone, and its PAN where that agrees.
-fn peer_at(devices: &[u8], d: usize, p: Address) -> bool
-    requires { ⌜ d < records 17 (now devices) ⌝ }
-    ensures { λ r. ⌜ r ≡ isPeer p (deviceAt (now (devices .entry)) d) ⌝ }
+// The device is the peer: PAN and address are its, in the address form given.
+pub fn is_peer(d: Device, p: Address) -> bool
+    ensures { λ r. ⌜ r ≡ isPeer p d ⌝ }
 {
-    let at = 17 * d;
     if p.mode == 2 {
-        if octets::number16(devices, at + 2) as u64 != p.address {
+        if d.short as u64 != p.address {
             return false;
         }
-        return octets::number16(devices, at) == p.pan;
+        return d.pan == p.pan;
     }
     if p.mode == 3 {
-        if octets::number64(devices, at + 4) != p.address {
+        if d.extended != p.address {
             return false;
         }
-        return octets::number16(devices, at) == p.pan;
+        return d.pan == p.pan;
     }
     false
 }
@@ -172,7 +157,7 @@ pub fn device_row(devices: &[u8], p: Address) -> Found
     let n = devices.len() / 17;
     let mut d: usize = 0;
     while d < n {
-        if peer_at(devices, d, p) {
+        if is_peer(device_at(devices, d), p) {
             return Found::At(d);
         }
         d += 1;
@@ -221,19 +206,6 @@ pub fn lookup_row(lookups: &[u8], mode: u8, at: usize, lead: u8, wanted: &[u8]) 
     Found::At(number)
 }
 
-// How many octets an address of the mode has.
-fn address_len(mode: u8) -> usize
-    ensures { λ r. ⌜ r ≡ addressLen mode ⌝ }
-{
-    if mode == 2 {
-        return 2;
-    }
-    if mode == 3 {
-        return 8;
-    }
-    0
-}
-
 // PAN and address of a peer, the address as if it were extended.
 fn peer_octets(p: Address) -> [u8; 10]
     ensures { λ r. ⌜ r ≡ octs 2 (p .pan) ++ octs 8 (p .address) ⌝ }
@@ -253,7 +225,7 @@ fn implicit_row(lookups: &[u8], p: Address) -> Found
         return Found::Nothing;
     }
     let octets = peer_octets(p);
-    let n = 2 + address_len(mode);
+    let n = 2 + modes::address_len(mode);
     lookup_row(lookups, 0, 11, mode, &octets[..n])
 }
 
@@ -266,6 +238,14 @@ pub fn key_row(lookups: &[u8], mode: u8, index: u8, source: &[u8], p: Address) -
         return implicit_row(lookups, p);
     }
     lookup_row(lookups, mode, 2, index, source)
+}
+
+// The key that lookup record i names.
+pub fn key_of(lookups: &[u8], i: usize) -> usize
+    requires { ⌜ i < records 22 (now lookups) ⌝ }
+    ensures { λ r. ⌜ r ≡ keyOf (now (lookups .entry)) i ⌝ }
+{
+    octets::wide(lookups[22 * i])
 }
 
 // The first usage record of the key for the type, and for type 3 the command.
@@ -286,6 +266,14 @@ pub fn usage_row(usages: &[u8], key: usize, kind: u8, command: u8) -> Found
     Found::Nothing
 }
 
+// The device that handle j names.
+pub fn device_of(handles: &[u8], j: usize) -> usize
+    requires { ⌜ j < records 2 (now handles) ⌝ }
+    ensures { λ r. ⌜ r ≡ handleOf (now (handles .entry)) j ⌝ }
+{
+    octets::wide(handles[2 * j + 1])
+}
+
 // The first handle of the key whose device is the peer. Only the devices of the key's own handles are looked at.
 pub fn handle_row(handles: &[u8], devices: &[u8], key: usize, p: Address) -> Found
     requires { ⌜ ((j : ℕ) → j < records 2 (now handles) → getD (now handles) (2 * j + 1) 0 < records 17 (now devices)) ⌝ }
@@ -294,9 +282,8 @@ pub fn handle_row(handles: &[u8], devices: &[u8], key: usize, p: Address) -> Fou
     let n = handles.len() / 2;
     let mut j: usize = 0;
     while j < n {
-        let at = 2 * j;
-        if octets::wide(handles[at]) == key {
-            if peer_at(devices, octets::wide(handles[at + 1]), p) {
+        if octets::wide(handles[2 * j]) == key {
+            if is_peer(device_at(devices, device_of(handles, j)), p) {
                 return Found::At(j);
             }
         }

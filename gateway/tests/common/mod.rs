@@ -2,8 +2,22 @@
 //! an input cut down to what still tells them apart.
 #![allow(dead_code)]
 
-use second::fcs::fcs;
-use second::testkit::{BuildInput, SiteSpec};
+use std::env;
+use std::process::Command;
+
+use second::testkit::{summed, BuildInput, SiteSpec};
+
+/// The log program, where `rt check log` puts it.
+pub const LOG: &str = concat!(env!("CARGO_MANIFEST_DIR"), "/../target/bin/log");
+
+/// Runs a program for x86-64; WIRDHALEF_EMULATOR may name what runs it.
+pub fn command(program: &str) -> Command {
+    let emulator = env::var("WIRDHALEF_EMULATOR").unwrap_or_default();
+    let mut words = emulator.split_whitespace().chain([program]);
+    let mut command = Command::new(words.next().expect("a program"));
+    command.args(words);
+    command
+}
 
 /// What a call answers and what it leaves of all that was lent.
 #[derive(Clone, Debug, PartialEq, Eq)]
@@ -263,11 +277,6 @@ fn shorter_frames(frame: &[u8]) -> Vec<Vec<u8>> {
         }
     }
     all
-}
-
-/// The octets with their FCS behind.
-pub fn summed(body: &[u8]) -> Vec<u8> {
-    [body, &fcs(body).to_le_bytes()].concat()
 }
 
 /// A buffer of so many octets, none of them zero.

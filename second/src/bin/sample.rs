@@ -1,7 +1,7 @@
 //! Writes the log's sample: a site and frames that show accepted, refused and cut input, and what the second
 //! implementation prints for it. Arguments: the file to write, and the file for the lines.
 
-use second::testkit::{frame_of, FrameCase, Rng, SiteSpec};
+use second::testkit::{frame_of, log_of, FrameCase, Rng, SiteSpec};
 
 /// The frames of the sample, in their order; a second `true` sends the frame before it once more.
 const CASES: [(FrameCase, bool); 12] = [
@@ -24,18 +24,19 @@ fn input(seed: u64) -> Vec<u8> {
     let mut rng = Rng::new(seed);
     let mut spec = SiteSpec::random(&mut rng);
     let mut site = spec.encode();
-    let mut octets = (site.len() as u16).to_le_bytes().to_vec();
-    octets.extend(&site);
+    let start = site.clone();
     let mut out = [0u8; 127];
-    let mut last = Vec::new();
+    let mut frames: Vec<Vec<u8>> = Vec::new();
     for (case, again) in CASES {
         spec.refresh(&site);
-        let frame = if again { last.clone() } else { frame_of(case, &mut rng, &spec) };
-        octets.push(frame.len() as u8);
-        octets.extend(&frame);
+        let frame = match again {
+            true => frames[frames.len() - 1].clone(),
+            false => frame_of(case, &mut rng, &spec),
+        };
         second::receive(&mut site, &frame, &mut out);
-        last = frame;
+        frames.push(frame);
     }
+    let mut octets = log_of(&start, &frames);
     octets.extend([9, 0x61, 0x88]);
     octets
 }
@@ -52,7 +53,8 @@ fn variety(lines: &[u8]) -> usize {
 
 fn main() {
     let names: Vec<String> = std::env::args().skip(1).collect();
-    let best = (0..2000).max_by_key(|seed| (variety(&second::log(&input(*seed))), 2000 - seed)).unwrap();
+    let best =
+        (0..2000).max_by_key(|seed| (variety(&second::log(&input(*seed))), 2000 - seed)).unwrap();
     let octets = input(best);
     std::fs::write(&names[0], &octets).unwrap();
     std::fs::write(&names[1], second::log(&octets)).unwrap();

@@ -15,11 +15,11 @@
 //! | 5 | octets that go to the front of the output | nothing |
 
 use super::damage::{Allowance, Breakage};
-use super::frames::{frame, frame_of, FrameCase};
+use super::frames::{frame, frame_of, run_of, FrameCase};
 use super::requests::{request, BuildInput, RequestBreakage};
 use super::rng::Rng;
 use super::sites::SiteSpec;
-use super::vectors::{known_frames, known_requests, probe_frame, probed};
+use super::vectors::{known_frames, known_requests, probe_frame, probe_request, probed};
 use crate::build::{build, Request};
 use crate::frame::{divide, read_header, Address, MAX_LEN};
 use crate::receive::{receive, Received};
@@ -97,11 +97,7 @@ impl Cases {
     }
 
     fn receive_many(&mut self, room: usize, frames: &[Vec<u8>], cut: usize) {
-        let mut run = Vec::new();
-        for frame in frames {
-            run.push(frame.len() as u8);
-            run.extend(frame);
-        }
+        let mut run = run_of(frames);
         run.truncate(run.len() - cut);
         self.item(3, room, [&run, &[], &[]]);
         let (mut rest, mut count) = (&run[..], 0u64);
@@ -149,10 +145,7 @@ impl Cases {
             self.receive(MAX_LEN, &probe_frame(counter, 6, &key, b"reading"));
             self.show();
         }
-        let destination = Address { mode: 2, pan: 0x4321, address: 5 };
-        let request =
-            Request { kind: 1, version: 1, destination, srcmode: 2, ..Request::default() };
-        let request = Request { level: 6, keymode: 1, keyindex: 1, ..request };
+        let request = probe_request(6);
         for (counter, len) in [(5, 103), (5, 102), (0xffff_fffe, 0), (0xffff_ffff, 0)] {
             self.new_site(probed(counter, key).encode());
             let input = BuildInput { request, private: vec![7; len], ..BuildInput::default() };

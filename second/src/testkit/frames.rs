@@ -3,11 +3,11 @@
 use super::rng::Rng;
 use super::sites::{Device, Lookup, SiteSpec};
 use crate::aes::Aes;
-use crate::build::write_fcs;
 use crate::ccm;
+use crate::fcs::fcs;
 use crate::frame::{
     header_len, security_len, tag_len, write_header, write_security, Address, Header, Security,
-    ACKNOWLEDGMENT, BEACON, COMMAND, DATA, EXTENDED, FCS_LEN, MAX_LEN, NONE, SHORT,
+    ACKNOWLEDGMENT, BEACON, COMMAND, DATA, FCS_LEN, MAX_LEN, NONE, SHORT,
 };
 use crate::octets::Writer;
 use crate::receive::at_least;
@@ -50,7 +50,7 @@ impl Plan {
 
     /// The frame with FCS and without tag.
     pub fn bare(&self) -> Vec<u8> {
-        summed(self.body().1)
+        summed(&self.body().1)
     }
 
     /// The frame enciphered and tagged for an originator, with FCS.
@@ -62,7 +62,7 @@ impl Plan {
         let (data, message) = body.split_at_mut(data_len);
         let tag = ccm::seal(&Aes::new(key), &nonce, data, message, tag_len(level));
         body.extend(&tag[..tag_len(level)]);
-        summed(body)
+        summed(&body)
     }
 
     /// How many private octets the longest frame has room for.
@@ -95,17 +95,13 @@ impl Plan {
 }
 
 /// Puts the FCS behind the octets.
-fn summed(mut body: Vec<u8>) -> Vec<u8> {
-    let len = body.len();
-    body.resize(len + FCS_LEN, 0);
-    write_fcs(&mut body, len);
-    body
+pub fn summed(body: &[u8]) -> Vec<u8> {
+    [body, &fcs(body).to_le_bytes()].concat()
 }
 
 /// Takes the last two octets off and sums the rest afresh.
-fn summed_again(mut frame: Vec<u8>) -> Vec<u8> {
-    frame.truncate(frame.len().saturating_sub(FCS_LEN));
-    summed(frame)
+pub fn summed_again(frame: &[u8]) -> Vec<u8> {
+    summed(&frame[..frame.len().saturating_sub(FCS_LEN)])
 }
 
 /// A random open payload of a type, exactly as long as it says.
@@ -205,7 +201,7 @@ pub fn frame_of(case: FrameCase, rng: &mut Rng, spec: &SiteSpec) -> Vec<u8> {
         FrameCase::Unsecured => unsecured(rng, spec).bare(),
         FrameCase::Overlong => {
             let len = rng.between(MAX_LEN + 1, 255);
-            summed(rng.octets(len - FCS_LEN))
+            summed(&rng.octets(len - FCS_LEN))
         }
         FrameCase::WrongDestination | FrameCase::OddTypeOrVersion | FrameCase::OddControl => {
             odd_header(case, rng, spec)
@@ -217,7 +213,7 @@ pub fn frame_of(case: FrameCase, rng: &mut Rng, spec: &SiteSpec) -> Vec<u8> {
         }
         FrameCase::GarbageSummed => {
             let len = rng.between(0, 125);
-            summed(rng.octets(len))
+            summed(&rng.octets(len))
         }
         FrameCase::FlippedBit
         | FrameCase::FlippedBitSummed
@@ -256,7 +252,7 @@ fn secured_case(case: FrameCase, rng: &mut Rng, spec: &SiteSpec) -> Vec<u8> {
     if case == FrameCase::WrongTag && tag_len > 0 {
         let at = frame.len() - FCS_LEN - 1 - rng.below(tag_len);
         frame[at] ^= 1 << rng.below(8);
-        frame = summed_again(frame);
+        frame = summed_again(&frame);
     }
     frame
 }
@@ -272,18 +268,18 @@ fn changed(case: FrameCase, rng: &mut Rng, spec: &SiteSpec) -> Vec<u8> {
             // Flips in the first 24 octets hit headers more often.
             let at = if rng.chance(60) { at.min(rng.below(24)) } else { at };
             frame[at] ^= 1 << rng.below(8);
-            frame = summed_again(frame);
+            frame = summed_again(&frame);
         }
         FrameCase::Truncated => frame.truncate(at),
         FrameCase::TruncatedSummed => {
             frame.truncate(at);
-            frame = summed(frame);
+            frame = summed(&frame);
         }
         _ => {
             frame.truncate(frame.len() - FCS_LEN);
             let more = rng.between(1, 20);
             frame.extend(rng.octets(more));
-            frame = summed(frame);
+            frame = summed(&frame);
         }
     }
     frame
@@ -331,8 +327,8 @@ fn odd_header(case: FrameCase, rng: &mut Rng, spec: &SiteSpec) -> Vec<u8> {
             let pan = spec.settings.pan ^ rng.pick(&[0, 0, 1, 0x100]);
             let (short, bit) = (spec.settings.short, rng.below(64));
             header.destination = match rng.chance(50) {
-                true => address(SHORT, pan, u64::from(short ^ 1 << (bit % 16))),
-                false => address(EXTENDED, pan, spec.settings.extended ^ 1 << bit),
+                true => Address::short(pan, u64::from(short ^ 1 << (bit % 16))),
+                false => Address::extended(pan, spec.settings.extended ^ 1 << bit),
             };
             header.compression = 0;
         }
@@ -344,7 +340,7 @@ fn odd_header(case: FrameCase, rng: &mut Rng, spec: &SiteSpec) -> Vec<u8> {
             let mut frame = plan.bare();
             frame[0] = if rng.chance(50) { frame[0] ^ 0x40 } else { rng.octet() };
             frame[1] = if rng.chance(50) { frame[1] & 0x30 | rng.octet() } else { frame[1] };
-            return summed_again(frame);
+            return summed_again(&frame);
         }
     }
     plan.private.truncate(plan.room());
@@ -395,14 +391,10 @@ fn draw_destination(rng: &mut Rng, spec: &SiteSpec, source: &Address) -> Address
     }
     let pan = if rng.chance(80) { settings.pan } else { 0xffff };
     match rng.below(3) {
-        0 => address(SHORT, pan, settings.short.into()),
-        1 => address(SHORT, pan, 0xffff),
-        _ => address(EXTENDED, pan, settings.extended),
+        0 => Address::short(pan, settings.short.into()),
+        1 => Address::short(pan, 0xffff),
+        _ => Address::extended(pan, settings.extended),
     }
-}
-
-fn address(mode: u8, pan: u16, address: u64) -> Address {
-    Address { mode, pan, address }
 }
 
 /// Ignored bits, mostly zero.
@@ -460,8 +452,8 @@ fn draw_source(rng: &mut Rng, spec: &SiteSpec, lookup: &Lookup) -> (Address, Dev
     for handle in spec.handles.iter().filter(|handle| handle.key == lookup.key) {
         let device = spec.devices[usize::from(handle.device)];
         let forms = [
-            address(SHORT, device.pan, device.short.into()),
-            address(EXTENDED, device.pan, device.extended),
+            Address::short(device.pan, device.short.into()),
+            Address::extended(device.pan, device.extended),
         ];
         for form in forms.into_iter().filter(|form| lookup.mode > 0 || is_peer(lookup, form)) {
             choices.push((form, device));
@@ -523,21 +515,35 @@ fn level_passes(spec: &SiteSpec, kind: u8, command: u8, level: Option<u8>) -> bo
     level.map_or((1..=7).any(passes), passes)
 }
 
-/// A random input of the log program for a site: so many frames, mostly whole.
-pub fn log_input(rng: &mut Rng, spec: &SiteSpec, frames: usize) -> Vec<u8> {
-    let site = spec.encode();
+/// Frames one after the other, each behind its length octet.
+pub fn run_of<F: AsRef<[u8]>>(frames: &[F]) -> Vec<u8> {
+    let mut run = Vec::new();
+    for frame in frames.iter().map(AsRef::as_ref) {
+        run.push(frame.len() as u8);
+        run.extend(frame);
+    }
+    run
+}
+
+/// An input of the log program: site length, site, frames.
+pub fn log_of<F: AsRef<[u8]>>(site: &[u8], frames: &[F]) -> Vec<u8> {
     let mut input = (site.len() as u16).to_le_bytes().to_vec();
     input.extend(site);
+    input.extend(run_of(frames));
+    input
+}
+
+/// A random input of the log program for a site: so many frames, mostly whole.
+pub fn log_input(rng: &mut Rng, spec: &SiteSpec, frames: usize) -> Vec<u8> {
     let mut sent: Vec<Vec<u8>> = Vec::new();
     for _ in 0..frames {
         let frame = match sent.is_empty() || rng.chance(90) {
             true => frame(rng, spec).1,
             false => sent[rng.below(sent.len())].clone(),
         };
-        input.push(frame.len() as u8);
-        input.extend(&frame);
         sent.push(frame);
     }
+    let mut input = log_of(&spec.encode(), &sent);
     if rng.chance(10) {
         input.truncate(rng.below(input.len() + 1));
     }

@@ -1,7 +1,7 @@
 //! Sites as records, and random ones.
 
 use super::rng::Rng;
-use crate::frame::{Address, EXTENDED, NONE, SHORT};
+use crate::frame::{Address, NONE, SHORT};
 use crate::octets::{u16_at, u32_at};
 use crate::site::{
     CONTENTS_LEN, DEVICES, HANDLES, KEYS, LEVELS, LOOKUPS, MAX_COUNT, RECORD_LEN, USAGES,
@@ -106,8 +106,8 @@ impl SiteSpec {
         let settings = &self.settings;
         match settings.coordinator_short {
             0xffff => Address::default(),
-            0xfffe => extended(settings.pan, settings.coordinator_extended),
-            address => short(settings.pan, address),
+            0xfffe => Address::extended(settings.pan, settings.coordinator_extended),
+            address => Address::short(settings.pan, address.into()),
         }
     }
 
@@ -289,8 +289,8 @@ impl Device {
     /// The device's address in one of its forms.
     fn address(&self, rng: &mut Rng) -> Address {
         match rng.chance(50) {
-            true => short(self.pan, self.short),
-            false => extended(self.pan, self.extended),
+            true => Address::short(self.pan, self.short.into()),
+            false => Address::extended(self.pan, self.extended),
         }
     }
 }
@@ -346,14 +346,6 @@ impl Lookup {
             peer,
         }
     }
-}
-
-fn short(pan: u16, address: u16) -> Address {
-    Address { mode: SHORT, pan, address: address.into() }
-}
-
-fn extended(pan: u16, address: u64) -> Address {
-    Address { mode: EXTENDED, pan, address }
 }
 
 /// How many records of a kind: mostly few, sometimes none or all.

@@ -1,19 +1,22 @@
 //! Published vectors as whole frames: IEEE Std 802.15.4-2011, Annex C.2, and
 //! the blocks of FIPS 197 and SP 800-38A, each the last that a tag is made of.
 
-use super::frames::Plan;
+use super::frames::{summed, Plan};
 use super::hex;
 use super::requests::BuildInput;
 use super::sites::{Device, Handle, Level, Lookup, Settings, SiteSpec, Usage};
 use crate::aes::{xor, Aes};
 use crate::build::Request;
 use crate::ccm;
-use crate::fcs::fcs;
-use crate::frame::{Address, Header, EXTENDED, SHORT};
+use crate::frame::{Address, Header};
 
-const KEY: &str = "C0 C1 C2 C3 C4 C5 C6 C7 C8 C9 CA CB CC CD CE CF";
-const ONE: u64 = 0xacde_4800_0000_0001;
-const TWO: u64 = 0xacde_4800_0000_0002;
+/// The annex's key, its originator and its receiver.
+#[rustfmt::skip]
+pub const ANNEX_KEY: [u8; 16] = [
+    0xc0, 0xc1, 0xc2, 0xc3, 0xc4, 0xc5, 0xc6, 0xc7, 0xc8, 0xc9, 0xca, 0xcb, 0xcc, 0xcd, 0xce, 0xcf,
+];
+pub const ONE: u64 = 0xacde_4800_0000_0001;
+pub const TWO: u64 = 0xacde_4800_0000_0002;
 
 // The annex omits the FCS.
 const BEACON: &str = "08 D0 84 21 43 01 00 00 00 00 48 DE AC || 02 05 00 00 00 || \
@@ -89,18 +92,6 @@ fn array<const N: usize>(text: &str) -> [u8; N] {
     hex(text).try_into().expect("the right number of octets")
 }
 
-fn summed(body: &[u8]) -> Vec<u8> {
-    [body, &fcs(body).to_le_bytes()].concat()
-}
-
-fn extended(pan: u16, address: u64) -> Address {
-    Address { mode: EXTENDED, pan, address }
-}
-
-fn short(address: u64) -> Address {
-    Address { mode: SHORT, pan: 0x4321, address }
-}
-
 /// The annex's receiver TWO; the originator ONE stands under the given PAN.
 fn receiver(peer_pan: u16, level: u8) -> SiteSpec {
     let settings =
@@ -114,8 +105,12 @@ fn receiver(peer_pan: u16, level: u8) -> SiteSpec {
         levels: [0, 1, 3]
             .map(|kind| Level { kind, command: 1, minimum: level, ..Level::default() })
             .to_vec(),
-        keys: vec![[9; 16], array(KEY)],
-        lookups: vec![Lookup { key: 1, peer: extended(peer_pan, ONE), ..Lookup::default() }],
+        keys: vec![[9; 16], ANNEX_KEY],
+        lookups: vec![Lookup {
+            key: 1,
+            peer: Address::extended(peer_pan, ONE),
+            ..Lookup::default()
+        }],
         usages: [0, 1, 3].map(|kind| Usage { key: 1, kind, command: 1 }).to_vec(),
         handles: vec![Handle { key: 1, device: 0 }, Handle { key: 1, device: 1 }],
     }
@@ -134,10 +129,10 @@ fn originator(pan: u16) -> SiteSpec {
             counter: 5,
             ..Settings::default()
         },
-        keys: vec![array(KEY)],
+        keys: vec![ANNEX_KEY],
         lookups: vec![
-            Lookup { peer: extended(pan, TWO), ..Lookup::default() },
-            Lookup { peer: extended(0x4321, TWO), ..Lookup::default() },
+            Lookup { peer: Address::extended(pan, TWO), ..Lookup::default() },
+            Lookup { peer: Address::extended(0x4321, TWO), ..Lookup::default() },
         ],
         ..SiteSpec::default()
     }
@@ -172,8 +167,8 @@ pub fn probe(counter: u32, level: u8, private: &[u8]) -> Plan {
             security: 1,
             compression: 1,
             version: 1,
-            destination: short(0),
-            source: short(5),
+            destination: Address::short(0x4321, 0),
+            source: Address::short(0x4321, 5),
             ..Header::default()
         },
         private: private.to_vec(),
@@ -189,6 +184,20 @@ pub fn probe(counter: u32, level: u8, private: &[u8]) -> Plan {
 /// The probe's frame, sealed with the key that its site has.
 pub fn probe_frame(counter: u32, level: u8, key: &[u8; 16], private: &[u8]) -> Vec<u8> {
     probe(counter, level, private).seal(key, ONE)
+}
+
+/// A request for a data frame to the probe, header 9, key mode 1.
+pub fn probe_request(level: u8) -> Request {
+    Request {
+        kind: 1,
+        version: 1,
+        destination: Address::short(0x4321, 5),
+        srcmode: 2,
+        level,
+        keymode: 1,
+        keyindex: 1,
+        ..Request::default()
+    }
 }
 
 /// A level 3 frame in which the block is the last that its tag is made of:
@@ -245,7 +254,7 @@ pub fn known_frames() -> Vec<KnownFrame> {
 /// Every published frame that is built.
 pub fn known_requests() -> Vec<KnownRequest> {
     let beacon = Request { version: 1, sequence: 0x84, srcmode: 3, level: 2, ..Request::default() };
-    let to_two = Request { request: true, destination: extended(0x4321, TWO), ..beacon };
+    let to_two = Request { request: true, destination: Address::extended(0x4321, TWO), ..beacon };
     let data = Request { kind: 1, level: 4, ..to_two };
     let command = Request { kind: 3, level: 6, ..to_two };
     let plain = |request: Request| Request { version: 0, level: 0, ..request };

@@ -1,4 +1,4 @@
--- `answer` is safe: each part is within those that were read.
+-- `answer` is safe: each part is within those that were read. Assumes nothing.
 use native.Mathlib.Omega.{arith}
 use lib.ListN.{length-take}
 use borrow.Author.Needs.{needs}

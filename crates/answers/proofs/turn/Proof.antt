@@ -1,4 +1,4 @@
--- `turn` is safe: the parts fit the buffer, and a new site fits its own.
+-- `turn` is safe: the parts fit the buffer, and a new site fits its own. Assumes nothing.
 use native.Mathlib.Omega.{arith}
 use lib.ListN.{length-take}
 use borrow.Author.Needs.{needs}

@@ -31,9 +31,7 @@ handle-from-spec =
     (λ c. omega arith)
     (λ c. omega arith)
     (λ c κs. search needs)
-    (λ c. omega arith)
-    (λ c. omega arith)
-    (λ c κs. search needs)
+    (λ c κs. omega arith)
     returns
     (λ c. omega arith)
     (λ c. omega arith)

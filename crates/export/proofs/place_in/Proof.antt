@@ -1,4 +1,4 @@
--- `place_in` meets its contract.
+-- `place_in` meets its contract: within the bounds of the cuts nothing overflows. Assumes nothing.
 use Rattle.export.specs.Boundary.{placeIn}
 use native.Mathlib.Omega.{arith}
 use borrow.Author.Needs.{needs}

@@ -1,4 +1,4 @@
--- `wirdhalef_build` meets its contract; a frame of at most 127 octets has its length in the number.
+-- `wirdhalef_build` meets its contract; a frame of at most 127 octets has its length in the number. Assumes nothing.
 use native.Mathlib.Omega.{arith}
 use Rattle.export.proofs.Sizes.{len-low}
 use Rattle.export.proofs.Whole.{built-is}

@@ -1,4 +1,4 @@
--- `wirdhalef_open_payload` meets its contract: by the cuts that were read.
+-- `wirdhalef_open_payload` meets its contract: by the cuts that were read. Assumes nothing.
 use mathlib.Core.Path.{_≡_, refl, sym, ap, _∙_}
 use native.Mathlib.Omega.{arith}
 use borrow.Author.Tests.{not-true, not-false}

@@ -1,4 +1,4 @@
--- `wirdhalef_receive` meets its contract: by the length of the answer.
+-- `wirdhalef_receive` meets its contract: by the length of the answer. Assumes nothing.
 use Rattle.meaning.proofs.Tests.{tests}
 use Rattle.export.specs.Boundary.{receivedBy}
 use Rattle.export.proofs.Whole.{received-is}

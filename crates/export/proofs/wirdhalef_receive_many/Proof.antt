@@ -1,4 +1,4 @@
--- `wirdhalef_receive_many` meets its contract: by the verdict on the site.
+-- `wirdhalef_receive_many` meets its contract: by the verdict on the site. Assumes nothing.
 use borrow.Author.Tests.{not-true, not-false}
 use Rattle.meaning.proofs.Tests.{calls}
 use Rattle.export.specs.Boundary.{receivedMany}

@@ -1,4 +1,4 @@
--- `wirdhalef_site_holds` meets its contract: by the verdict on the site.
+-- `wirdhalef_site_holds` meets its contract: by the verdict on the site. Assumes nothing.
 use mathlib.Core.Path.{_≡_, refl, sym, ap, _∙_}
 use Rattle.meaning.specs.Build.{bit}
 use borrow.Author.Needs.{needs}

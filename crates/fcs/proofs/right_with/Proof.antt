@@ -1,4 +1,4 @@
--- `right_with` meets its contract: the last two octets as a number are compared with the sum; fewer than two octets are never right.
+-- `right_with` meets its contract: the last two octets as a number are compared with the sum; fewer than two octets are never right. Assumes nothing.
 use mathlib.Core.Path.{_≡_, sym, ap₂, _∙_}
 use Prim.Native.Nat.{ℕ, _-_, _<_, _≤_}
 use mathlib.Core.List.{List}

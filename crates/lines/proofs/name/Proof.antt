@@ -1,5 +1,4 @@
--- `lines::name` meets its contract.
--- Assumes nothing.
+-- `lines::name` meets its contract: a row's first octet is the length of the name behind it. Assumes nothing.
 use borrow.Author.Needs.{needs}
 use native.Mathlib.Omega.{arith}
 use Rattle.lines.proofs.Names.{short, part}

@@ -1,5 +1,4 @@
--- `log::start` meets its contract.
--- Assumes nothing.
+-- `log::start` is safe: each text lies in its buffer, and the site in the octets at hand. Assumes nothing.
 use mathlib.Core.Path.{sym}
 use native.Mathlib.Omega.{arith}
 use lib.ListN.{length-take}

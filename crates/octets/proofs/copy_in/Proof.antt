@@ -1,4 +1,4 @@
--- `copy_in` meets its contract. The loop's invariant: the octets of src below j are stored.
+-- `copy_in` meets its contract. The loop's invariant: the octets of src below j are stored. Assumes nothing.
 use mathlib.Core.Path.{_≡_, refl, ap, _∙_}
 use Prim.Native.Nat.{ℕ, _-_}
 use native.Mathlib.Omega.{arith}

@@ -1,4 +1,4 @@
--- `put16` meets its contract: the second octet is below 256.
+-- `put16` meets its contract: the second octet is below 256. Assumes nothing.
 use mathlib.Core.Path.{_≡_, sym}
 use Prim.Native.Nat.{_/_, _%_}
 use native.Mathlib.Numerals.{add-one}

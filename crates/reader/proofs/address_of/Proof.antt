@@ -14,4 +14,4 @@ unfolding addressOf
 returns-2 c = rw (← c .low16 .ensures) (search tests)
 
 pub address-of-spec : {M : Type 1} → statement M
-address-of-spec = tie.close (tie.spec returns (λ c κs. search needs) returns-2)
+address-of-spec = tie.close (tie.spec (λ c κs. search needs) returns (λ c κs. search needs) returns-2)

@@ -1,20 +1,14 @@
 -- The schedule is the key's and the nonce the device's, by `by-key`. Assumes nothing.
-use Rattle.receiver.proofs.Openings.{key-fits, key-long, by-key}
+use Rattle.receiver.proofs.Openings.{by-key}
 use borrow.Author.Needs.{needs}
 use Rattle.receiver.proofs.unsecure.Statement.{statement}
 use Rattle.receiver.proofs.unsecure.Tie as tie
 
-table-requires : tie.Need-table-requires
-table-requires c κs = search needs
-
-mul-part-of : tie.Need-mul-part-of
-mul-part-of c = search key-fits depth 7
-
-part-of-requires : tie.Need-part-of-requires
-part-of-requires c κs = search needs
+key-of-requires : tie.Need-key-of-requires
+key-of-requires c κs = search needs
 
 schedule-requires : tie.Need-schedule-requires
-schedule-requires c κs = (search needs, search key-long depth 7)
+schedule-requires c κs = search needs
 
 nonce-of-requires : tie.Need-nonce-of-requires
 nonce-of-requires c κs = search needs
@@ -32,9 +26,8 @@ pub unsecure-spec : {M : Type 1} → statement M
 unsecure-spec =
     tie.close
     (tie.spec
-    table-requires
-    mul-part-of
-    part-of-requires
+    key-of-requires
+    (λ c. search needs)
     schedule-requires
     nonce-of-requires
     open-with-requires

@@ -4,9 +4,8 @@ use native.Mathlib.Omega.{arith}
 use Rattle.meaning.specs.Site.{deviceAt}
 use Rattle.meaning.specs.Steps.{isPeer}
 use Rattle.meaning.specs.declared.Found.the-variants.{At, Nothing}
-use Rattle.meaning.proofs.Order.{said}
 use Rattle.meaning.proofs.Scan.{Passed, passed-none, passed-more, is-none}
-use Rattle.search.proofs.Laws.{at-hit, deviceRow-tab}
+use Rattle.search.proofs.Laws.{at-hit, deviceRow-tab, peer-at}
 use Rattle.search.proofs.device_row.Statement.{statement}
 use Rattle.search.proofs.device_row.Tie as tie
 
@@ -17,10 +16,10 @@ abbrev μ-loop : tie.MeasureT-loop
 μ-loop devices p n d₀ d = n - d
 
 returns : tie.Need-returns Inv-loop μ-loop
-returns c = rw deviceRow-tab (search (at-hit, said))
+returns c = rw deviceRow-tab (search (at-hit, peer-at))
 
 loop-again : tie.Need-loop-again Inv-loop μ-loop
-loop-again c = search (passed-more, said)
+loop-again c = search (passed-more, peer-at)
 
 returns-2 : tie.Need-returns-2 Inv-loop μ-loop
 returns-2 c = rw deviceRow-tab (search is-none)
@@ -33,6 +32,7 @@ device-row-spec =
     μ-loop
     (λ c. passed-none)
     (λ c κs. omega arith)
+    (λ c κs. tt)
     returns
     (λ c. omega arith)
     (λ c. omega arith)

@@ -1,31 +1,38 @@
 -- `search::handle_row` meets its contract. The loop's invariant: the handles passed are another key's, or their device is not the peer. Assumes nothing.
 use mathlib.Core.Bool.{_&&_}
 use mathlib.Core.Logic.{⊎-elim}
-use Prim.Native.Nat.{_+_, _*_, _-_}
+use Prim.Native.Nat.{_*_, _-_}
 use native.Mathlib.Omega.{arith}
 use lib.ListN.{getD}
 use lib.Dec.{eqb}
 use Rattle.meaning.specs.Site.{deviceAt}
-use Rattle.meaning.specs.Steps.{isPeer}
+use Rattle.meaning.specs.Steps.{isPeer, handleOf}
 use Rattle.meaning.specs.declared.Found.the-variants.{At, Nothing}
 use Rattle.meaning.proofs.Scan.{Passed, passed-none, passed-more, is-none}
-use Rattle.meaning.proofs.Tests.{compared, and-on, and-left, and-right}
-use Rattle.search.proofs.Laws.{at-hit, handleRow-tab, peer-by}
+use Rattle.meaning.proofs.Tests.{compared, eq-by, and-on, and-left, and-right}
+use Rattle.search.proofs.Laws.{at-hit, handleRow-tab, handle-in, peer-by}
 use Rattle.search.proofs.handle_row.Statement.{statement}
 use Rattle.search.proofs.handle_row.Tie as tie
 
 abbrev Inv-loop : tie.InvT-loop
 Inv-loop handles devices key p n j₀ j =
-    Passed (λ k. eqb (getD handles (2 * k) 0) key && isPeer p (deviceAt devices (getD handles (2 * k + 1) 0))) At Nothing n j
+    Passed (λ k. eqb (getD handles (2 * k) 0) key && isPeer p (deviceAt devices (handleOf handles k))) At Nothing n j
 
 abbrev μ-loop : tie.MeasureT-loop
 μ-loop handles devices key p n j₀ j = n - j
 
-peer-at-requires : tie.Need-peer-at-requires Inv-loop μ-loop
-peer-at-requires c κs = rw (c .wide2 .ensures) (c .before .before .before .before .before .before .before .before .before .pre (c .before .before .before .before .before .before .loop .j) (omega arith))
+device-at-requires : tie.Need-device-at-requires Inv-loop μ-loop
+device-at-requires c κs = search handle-in
 
 returns : tie.Need-returns Inv-loop μ-loop
-returns c = rw (handleRow-tab _ _ _ _ _ (c .before .before .before .before .before .before .before .before .before .before .before .pre)) (search (at-hit, and-on, peer-by, compared))
+returns c =
+    let u = c .before .before .before in
+    let k = u .before .before in
+    let l = k .before .before in
+    rw (handleRow-tab _ _ _ _ _ (l .before .before .before .before .pre))
+    (at-hit _ _ _ (l .before .loop .inv) (l .loop-test .taken)
+    (and-on _ _ (eq-by _ _ _ (k .wide .ensures) (u .before .if1 .taken))
+    (peer-by _ _ _ _ _ _ _ (u .device-of .ensures) (c .before .before .device-at .ensures) (c .before .is-peer .ensures) (c .if2 .taken))))
 
 loop-again : tie.Need-loop-again Inv-loop μ-loop
 loop-again c =
@@ -45,10 +52,9 @@ handle-row-spec =
     (λ c. omega arith)
     (λ c. omega arith)
     (λ c κs. tt)
-    (λ c. omega arith)
-    (λ c. omega arith)
+    (λ c κs. omega arith)
+    device-at-requires
     (λ c κs. tt)
-    peer-at-requires
     returns
     (λ c. omega arith)
     (λ c. omega arith)

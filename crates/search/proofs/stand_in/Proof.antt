@@ -8,7 +8,7 @@ use Rattle.meaning.proofs.Tests.{tests}
 
 returns : tie.Need-returns
 unfolding standIn coordinatorShort
-returns c = rw (← c .before .number16 .ensures) (search tests)
+returns c = rw (← c .before .before .number16 .ensures) (search tests)
 
 returns-2 : tie.Need-returns-2
 unfolding standIn panId coordinatorShort coordinatorExtended
@@ -24,6 +24,7 @@ pub stand-in-spec : {M : Type 1} → statement M
 stand-in-spec =
     tie.close
     (tie.spec
+    (λ c κs. search needs)
     (λ c κs. search needs)
     returns
     (λ c κs. search needs)

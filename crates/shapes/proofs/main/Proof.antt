@@ -1,4 +1,4 @@
--- `main` is safe: the site is the part that was read.
+-- `main` is safe: the site is the part that was read. Assumes nothing.
 use mathlib.Core.Path.{sym}
 use lib.Seq.{length-take-le}
 use native.Mathlib.Omega.{arith}

@@ -1,4 +1,4 @@
--- `shapes` is safe and ends: the measure is what is left of all shapes.
+-- `shapes` is safe and ends: the measure is what is left of all shapes. Assumes nothing.
 use Prim.Native.Nat.{_-_, _≤_}
 use native.Mathlib.Omega.{arith}
 use Rattle.shapes.proofs.shapes.Statement.{statement}

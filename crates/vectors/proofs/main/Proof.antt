@@ -1,4 +1,4 @@
--- `main` is safe and ends: each turn counts a record at most once, and there are at most 10,000 turns.
+-- `main` is safe and ends: each turn counts a record at most once, and there are at most 10,000 turns. Assumes nothing.
 use Prim.Native.Nat.{_+_, _≤_}
 use native.Mathlib.Omega.{arith}
 use borrow.Author.Needs.{needs}

@@ -1,6 +1,7 @@
 -- `builder::header::fitted` meets its contract, by the mode. Assumes nothing.
 use Rattle.meaning.specs.Build.{fitted}
 use Rattle.meaning.proofs.Tests.{tests}
+use borrow.Author.Needs.{needs}
 use Rattle.builder.proofs.header.fitted.Statement.{statement}
 use Rattle.builder.proofs.header.fitted.Tie as tie
 
@@ -17,4 +18,4 @@ unfolding fitted
 returns-3 c = search tests depth 9
 
 pub fitted-spec : {M : Type 1} → statement M
-fitted-spec = tie.close (tie.spec returns returns-2 returns-3)
+fitted-spec = tie.close (tie.spec (λ c κs. search needs) returns returns-2 returns-3)

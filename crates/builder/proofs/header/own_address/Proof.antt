@@ -22,6 +22,7 @@ pub own-address-spec : {M : Type 1} → statement M
 own-address-spec =
     tie.close
     (tie.spec
+    (λ c κs. search needs)
     returns
     (λ c κs. search needs)
     (λ c κs. search needs)

@@ -1,4 +1,4 @@
--- `count` meets its contract: by the status.
+-- `count` meets its contract: by the status. Assumes nothing.
 use Rattle.meaning.proofs.Tests.{tests}
 use Rattle.export.specs.Boundary.{counted}
 use borrow.Author.Needs.{needs}

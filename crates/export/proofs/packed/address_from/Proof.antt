@@ -1,4 +1,4 @@
--- `address_from` meets its contract: field by field.
+-- `address_from` meets its contract: field by field. Assumes nothing.
 use Rattle.export.specs.Packed.{addressFrom}
 use borrow.Author.Needs.{needs}
 use Rattle.export.proofs.packed.address_from.Statement.{statement}

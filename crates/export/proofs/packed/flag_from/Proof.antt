@@ -1,4 +1,4 @@
--- `flag_from` meets its contract.
+-- `flag_from` meets its contract, by the octet read. Assumes nothing.
 use Rattle.export.specs.Packed.{flagFrom}
 use borrow.Author.Needs.{needs}
 use Rattle.export.proofs.packed.flag_from.Statement.{statement}

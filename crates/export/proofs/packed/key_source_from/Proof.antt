@@ -1,4 +1,4 @@
--- `key_source_from` meets its contract: octet by octet.
+-- `key_source_from` meets its contract: octet by octet. Assumes nothing.
 use Rattle.export.specs.Packed.{keySourceFrom}
 use borrow.Author.Needs.{needs}
 use Rattle.export.proofs.packed.key_source_from.Statement.{statement}

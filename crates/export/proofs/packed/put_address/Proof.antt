@@ -1,4 +1,4 @@
--- `put_address` meets its contract: its three parts touch.
+-- `put_address` meets its contract: its three parts touch. Assumes nothing.
 use Rattle.export.proofs.Runs.{address-stored}
 use borrow.Author.Needs.{needs}
 use Rattle.export.proofs.packed.put_address.Statement.{statement}

@@ -1,4 +1,4 @@
--- `put_header` meets its contract: its three parts touch.
+-- `put_header` meets its contract: its three parts touch. Assumes nothing.
 use Rattle.export.specs.Packed.{fieldsPacked}
 use Rattle.export.proofs.Runs.{header-stored}
 use borrow.Author.Needs.{needs}

@@ -1,4 +1,4 @@
--- `put_received` meets its contract: its three parts touch.
+-- `put_received` meets its contract: its three parts touch. Assumes nothing.
 use Rattle.export.proofs.Runs.{answer-stored}
 use borrow.Author.Needs.{needs}
 use Rattle.export.proofs.packed.put_received.Statement.{statement}

@@ -1,4 +1,4 @@
--- `put_rest` meets its contract: its seven parts touch.
+-- `put_rest` meets its contract: its seven parts touch. Assumes nothing.
 use Rattle.export.proofs.Runs.{rest-stored}
 use borrow.Author.Needs.{needs}
 use Rattle.export.proofs.packed.put_rest.Statement.{statement}

@@ -1,4 +1,4 @@
--- `put_size` meets its contract, as `put16` does.
+-- `put_size` meets its contract, as `put16` does. Assumes nothing.
 use native.Mathlib.Numerals.{add-one}
 use native.Mathlib.Omega.{arith}
 use lib.ListN.{length-set}

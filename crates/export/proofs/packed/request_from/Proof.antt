@@ -1,4 +1,4 @@
--- `request_from` meets its contract: field by field.
+-- `request_from` meets its contract: field by field. Assumes nothing.
 use Rattle.export.specs.Packed.{requestFrom}
 use borrow.Author.Needs.{needs}
 use Rattle.export.proofs.packed.request_from.Statement.{statement}
