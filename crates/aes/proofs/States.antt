@@ -1,12 +1,11 @@
 -- Steps of a round on four words are steps on the state of their octets. Assumes nothing.
 use mathlib.Core.Path.{_≡_, refl, sym, ap, ap₂, _∙_}
 use mathlib.Core.List.{List, [], _∷_, _++_}
-use Prim.Native.Nat.{ℕ, _+_, _*_, _/_, _%_, _≤_, _<_}
-use native.Mathlib.Nat.{add-zero}
+use Prim.Native.Nat.{ℕ, _+_, _*_, _/_, _%_, _<_}
 use native.Mathlib.Omega.{arith}
 use lib.Bits.{bitXor}
-use lib.ListN.{length, getD, take, drop, length-drop}
-use lib.Seq.{sets, take-add, take-all, drop-drop, length-take-le, getD-take, getD-drop}
+use lib.ListN.{length, getD, take, drop}
+use lib.Seq.{sets, take-add, take-all, drop-drop}
 use Rattle.meaning.specs.Octets.{octs, part, tab}
 use Rattle.meaning.specs.Sbox.{sbox}
 use Rattle.meaning.specs.Cipher.{subBytes, shiftRows, mixColumns, addRoundKey, roundKey}
@@ -23,17 +22,6 @@ columns : {p q r s p′ q′ r′ s′ : List ℕ} → p ≡ p′ → q ≡ q′
 columns e f g h = ap₂ _++_ e (ap₂ _++_ f (ap₂ _++_ g h))
 
 -- ---- words in a list
-part-four : (s : List ℕ) (at : ℕ) → at + 4 ≤ length s
-    → part at 4 s ≡ getD s at 0 ∷ getD s (at + 1) 0 ∷ getD s (at + 2) 0 ∷ getD s (at + 3) 0 ∷ []
-part-four s at h =
-    tab-of (λ j. getD s (at + j) 0) 0 4 (part at 4 s) (length-take-le 4 (drop at s) (omega (arith, length-drop at s)))
-    (λ j l. getD-take 4 (drop at s) j 0 l ∙ getD-drop at s j 0)
-    ∙ ap (λ (k : ℕ). getD s k 0 ∷ getD s (at + 1) 0 ∷ getD s (at + 2) 0 ∷ getD s (at + 3) 0 ∷ []) (add-zero at)
-
-pub word-read : (s : List ℕ) (at x : ℕ) → at + 4 ≤ length s
-    → octs 4 x ≡ getD s at 0 ∷ getD s (at + 1) 0 ∷ getD s (at + 2) 0 ∷ getD s (at + 3) 0 ∷ [] → octs 4 x ≡ part at 4 s
-word-read s at x h e = e ∙ sym (part-four s at h)
-
 part-more : (s : List ℕ) (at m n k : ℕ) → at + m ≡ k → part at (m + n) s ≡ part at m s ++ part k n s
 part-more s at m n k e =
     take-add m n (drop at s) ∙ ap (λ (l : List ℕ). take m (drop at s) ++ take n l) (drop-drop m at s ∙ ap (λ (j : ℕ). drop j s) e)

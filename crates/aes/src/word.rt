@@ -18,7 +18,7 @@ pub fn word_at(s: &[u8], at: usize) -> u32
     requires { ⌜ at + 4 ≤ length (now s) ⌝ }
     ensures { λ r. ⌜ octs 4 r ≡ part at 4 (now (s .entry)) ⌝ }
 {
-    join(s[at], s[at + 1], s[at + 2], s[at + 3])
+    octets::whole32(s, at)
 }
 
 // Each octet a place to the front, the first to the end.
