@@ -3,16 +3,12 @@ use mathlib.Core.Path.{_≡_, refl, sym, _∙_}
 use mathlib.Core.Bool.{Bool, true, false, _&&_, not}
 use mathlib.Core.List.{List}
 use Prim.Native.Nat.{ℕ, _≤_}
-use lib.Dec.{eqb, ltb, leb}
+use lib.Dec.{eqb, leb}
 use borrow.Author.Tests.{eq-eqb, ne-eqb, le-leb}
 use Rattle.meaning.specs.Frame.{shapeRight}
 use Rattle.meaning.specs.Build.{headerBy}
 use Rattle.meaning.specs.declared.Header.{Header}
 use Rattle.meaning.specs.declared.Request.{Request}
-
--- a comparison with a callee's number u, which its contract says is a
-pub lt-last : (a b u : ℕ) → u ≡ a → ltb u b ≡ ltb a b
-lt-last a b u d = rw d
 
 -- four numbers in range
 pub ranged : (k v l m : ℕ) (z b : Bool) → k ≤ 3 → v ≤ 1 → l ≤ 7 → m ≤ 3 → z ≡ b → z ≡ (leb k 3 && (leb v 1 && (leb l 7 && (leb m 3 && b))))

@@ -17,7 +17,7 @@ use Rattle.meaning.proofs.Stores.{take-sets, drop-sets, sets-beside, take-besid
 use Rattle.meaning.proofs.Sums.{length-fcs}
 use Rattle.meaning.proofs.Ccm.{length-cipher-text, length-tag}
 use Rattle.aes.specs.Schedule.{scheduled, cipherBy}
-use Rattle.aes.proofs.Laws.{by-schedule, length-cipher}
+use Rattle.aes.proofs.Laws.{same-cipher, length-cipher}
 use Rattle.ccm.specs.Tags.{Sealing}
 use Rattle.builder.specs.Stored.{Put, Open, Ready, closed, securedBy}
 use Rattle.builder.proofs.Puts.{put-two}
@@ -134,7 +134,7 @@ module _ (key nonce : List ℕ) (l : ℕ) where
   sealed-put at n d w f tag d₂ m r h k e s g p = put-two first (rw t at p)
     where
       same : cipherBy w ≡ cipher key
-      same = ap cipherBy e ∙ (λ i b. by-schedule key b i)
+      same = ap cipherBy e ∙ same-cipher key
 
       front : take at (take n d) ≡ take at d
       front = take-take at n d h

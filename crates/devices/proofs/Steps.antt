@@ -3,7 +3,6 @@ use mathlib.Core.Path.{_≡_, refl, ap, sym, _∙_}
 use mathlib.Core.Bool.{Bool, true, false, _&&_}
 use mathlib.Core.List.{List}
 use Prim.Native.Nat.{ℕ, zero, suc, _+_, _-_, _*_, _/_, _≤_, _<_}
-use native.Mathlib.Numerals.{add-one}
 use native.Mathlib.Omega.{arith}
 use lib.ListN.{length, getD}
 use Rattle.meaning.specs.Octets.{pick, scan}
@@ -12,15 +11,11 @@ use Rattle.meaning.specs.Steps.{isPeer, noDevice, handleOf, handleRow}
 use Rattle.meaning.specs.declared.Device.{Device}
 use Rattle.meaning.specs.declared.Found.{Found}
 use Rattle.meaning.specs.declared.Found.the-variants.{At, Nothing}
-use Rattle.meaning.proofs.Scan.{pick-all}
+use Rattle.meaning.proofs.Scan.{step, pick-all}
 use Rattle.meaning.proofs.Tests.{and-left, eq-by, ne-by}
 use Rattle.devices.specs.Devices.{isHandle, deviceOf, trial, over, handleFrom, triedOf, answerOf}
 use Rattle.devices.specs.declared.Sought.{Sought}
 use Rattle.devices.specs.declared.Trial.{Trial}
-
--- one step of a scan
-step : {A : Type 0} (p : ℕ → Bool) (hit : ℕ → A) (none : A) (n i : ℕ) → i < n → scan p hit none (n - i) i ≡ pick (p i) (hit i) (scan p hit none (n - (i + 1)) (i + 1))
-step p hit none n i h = let e : n - i ≡ suc (n - (i + 1)) = omega arith in rw (e, add-one)
 
 -- the loop of `handle_from`: the handles before i are not it
 pub record Further (hs : List ℕ) (key from m i : ℕ) : Type 0 where

@@ -89,6 +89,9 @@ ne-by a b u d h = ne-eqb a b (λ e. h (d ∙ e))
 pub eq-last : (a b u : ℕ) → u ≡ a → eqb u b ≡ eqb a b
 eq-last a b u d = rw d
 
+pub lt-last : (a b u : ℕ) → u ≡ a → ltb u b ≡ ltb a b
+lt-last a b u d = rw d
+
 pub ruleset compared = (eq-by, ne-by)
 
 pub ruleset bools = (and-on, and-left, and-right, or-left, or-right, or-off, not-on, not-off, eq-eqb, ne-eqb, lt-ltb, le-ltb, le-leb, lt-leb)

@@ -13,17 +13,13 @@ use Rattle.meaning.specs.Ccm.{nonceOf}
 use Rattle.meaning.specs.Receive.{privateOf, opened}
 use Rattle.meaning.specs.declared.Cuts.{Cuts}
 use Rattle.aes.specs.Schedule.{scheduled, cipherBy}
-use Rattle.aes.proofs.Laws.{by-schedule}
+use Rattle.aes.proofs.Laws.{same-cipher}
 use Rattle.ccm.specs.Tags.{Opening}
 use Rattle.receiver.specs.Parts.{Unsecured, OpenedWith, nonceIn, keyOfSite, extendedOf}
 use Rattle.receiver.proofs.Bodies.{view-aux, view-cuts, view-size}
 
 pub body-small : (b : List ℕ) → length b ≤ 125 → length b < 65280
 body-small b h = omega arith
-
--- the cipher by the schedule of a key
-same-cipher : (key : List ℕ) → cipherBy (scheduled key) ≡ cipher key
-same-cipher key = λ i b. by-schedule key b i
 
 pub private-in : (b x : List ℕ) (n m : ℕ) → length b ≤ 125 → 125 ≤ length x → length b - n - m ≤ length x
 private-in b x n m h k = omega arith

@@ -3,21 +3,6 @@ use crate::requests::own_address;
 use meaning::Address;
 use meaning::Header;
 use meaning::Request;
-ghost use Prim.Native.Nat.{_+_, _≤_};
-
-// The n octets of b from a place on are the first n of a.
-pub fn same_from(a: &[u8], b: &[u8], at: usize, n: usize) -> bool
-    requires { ⌜ at + n ≤ 4096 ⌝ }
-{
-    let mut i: usize = 0;
-    while i < n {
-        if octets::octet(a, i) != octets::octet(b, at + i) {
-            return false;
-        }
-        i += 1;
-    }
-    true
-}
 
 fn address_same(a: Address, b: Address) -> bool {
     if a.mode != b.mode {

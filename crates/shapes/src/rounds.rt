@@ -1,6 +1,5 @@
 // Builds a frame, receives it on the same site, and prints what comes back.
 use crate::comparing::header_same;
-use crate::comparing::same_from;
 use crate::printing::hex_number;
 use crate::printing::octet_number;
 use crate::printing::same_or_not;
@@ -12,6 +11,7 @@ use crate::sites::at_most;
 use libc::STDOUT_FILENO;
 use meaning::Received;
 use meaning::Request;
+use octets::same_from;
 ghost use Prim.Native.Nat.{_≤_};
 ghost use lib.ListN.{length};
 

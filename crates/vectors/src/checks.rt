@@ -2,8 +2,8 @@
 use crate::records::block_of;
 use crate::records::fill;
 use crate::records::nonce_of;
-use crate::records::same_from;
 use aes::Schedule;
+use octets::same_from;
 ghost use mathlib.Core.Path.{_≡_};
 ghost use Prim.Native.Nat.{_+_, _≤_};
 ghost use lib.ListN.{length};

@@ -1,4 +1,4 @@
-// Octets of a record: taken out, and compared.
+// Octets of a record, taken out.
 ghost use Prim.Native.Nat.{_+_, _≤_};
 ghost use lib.ListN.{length};
 
@@ -11,20 +11,6 @@ pub fn fill(out: &mut [u8], vector: &[u8], at: usize)
         out[i] = octets::octet(vector, at + i);
         i += 1;
     }
-}
-
-// The n octets of a record from a place on are the first n of a.
-pub fn same_from(a: &[u8], vector: &[u8], at: usize, n: usize) -> bool
-    requires { ⌜ at + n ≤ 4096 ⌝ }
-{
-    let mut i: usize = 0;
-    while i < n {
-        if octets::octet(a, i) != octets::octet(vector, at + i) {
-            return false;
-        }
-        i += 1;
-    }
-    true
 }
 
 pub fn nonce_of(vector: &[u8]) -> [u8; 13] {

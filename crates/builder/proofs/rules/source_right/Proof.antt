@@ -2,8 +2,7 @@
 use Rattle.meaning.specs.Build.{sourceRight}
 use Rattle.meaning.specs.Site.{shortAddress}
 use Rattle.meaning.proofs.Joined.{joined}
-use Rattle.meaning.proofs.Tests.{bools}
-use Rattle.builder.proofs.Joins.{lt-last}
+use Rattle.meaning.proofs.Tests.{bools, lt-last}
 use borrow.Author.Needs.{needs}
 use Rattle.builder.proofs.rules.source_right.Statement.{statement}
 use Rattle.builder.proofs.rules.source_right.Tie as tie
