@@ -1,5 +1,6 @@
 pub mod Products
-pub mod Sixteen
+pub mod Words
+pub mod States
 pub mod Turns
 pub mod Expansion
 pub mod Laws

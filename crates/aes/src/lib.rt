@@ -1,9 +1,10 @@
 // AES-128 (FIPS 197), encryption. The S-box is a table that is made once and lent to the functions that look octets up.
-// Read sbox and field, then keys and rounds.
+// Read sbox, field and word, then keys and rounds.
 mod field;
 mod keys;
 mod rounds;
 mod sbox;
+mod word;
 
 pub use field::product;
 pub use keys::Schedule;
