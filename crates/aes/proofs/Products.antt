@@ -41,8 +41,3 @@ two a = xor-zero-r (xtime a)
 pub three : (a : ℕ) → product a 3 ≡ bitXor a (xtime a)
 unfolding product productBits
 three a = ap (bitXor a) (xor-zero-r (xtime a))
-
--- the same with the constant first, at octets: by a test of all 256
-pub two-first : (a : ℕ) → a < 256 → product 2 a ≡ xtime a
-unfolding product productBits xtime
-two-first a h = agree (product 2) xtime 256 tt a h

@@ -66,20 +66,6 @@ pub getD-padded : (x : List ℕ) (i : ℕ) → getD (padded x) i 0 ≡ getD x i 
 unfolding padded
 getD-padded x i = zeros-after x ((16 - length x % 16) % 16) i
 
--- ---- the flags of the first block
-module _ (n : ℕ) (some : 0 < n) where
-  pub flags-4 : flagsOf 4 n ≡ 0x49
-  unfolding flagsOf
-  flags-4 = rw (ne-eqb n 0 (λ e. omega arith))
-
-  pub flags-8 : flagsOf 8 n ≡ 0x59
-  unfolding flagsOf
-  flags-8 = rw (ne-eqb n 0 (λ e. omega arith))
-
-  pub flags-16 : flagsOf 16 n ≡ 0x79
-  unfolding flagsOf
-  flags-16 = rw (ne-eqb n 0 (λ e. omega arith))
-
 module _ (E : List ℕ → List ℕ) where
   -- ---- the chain over two runs of blocks is that over the one and then the other
   pub chain-append : (n m : ℕ) (x u v : List ℕ) → length u ≡ 16 * n → chain E x (n + m) (u ++ v) ≡ chain E (chain E x n u) m v

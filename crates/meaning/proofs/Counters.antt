@@ -209,6 +209,3 @@ module _ (s : List ℕ) (rule : siteRule s ≡ true) (k o : ℕ) (at : Counter s
         settings-after s rule k o at xs four,
         tab-same (deviceAt (body (after s rule k o at xs four) 1)) (deviceAt (body s 1)) noDevice (countOf s 1) (λ i h. device-after s rule k o at xs four i),
       )
-
-  pub keys-after : body (after s rule k o at xs four) 3 ≡ body s 3
-  keys-after = further 3 (omega arith) (omega arith)

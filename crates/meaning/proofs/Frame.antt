@@ -118,10 +118,6 @@ pub open-end : (b : List ℕ) → openEnd (cutsOf b) ≡ openCount b
 unfolding openEnd cutsOf divide cutAux cutOpen openCount then
 open-end b = omega arith
 
-pub length-rest : (b : List ℕ) → length (restOf b) ≡ length b - openEnd (cutsOf b)
-unfolding restOf cutsOf divide cutAux cutOpen openEnd
-length-rest b = simp length-drop (omega arith)
-
 pub head-is : (b : List ℕ) → divide b .head ≡ take (cutsOf b .head) b
 unfolding cutsOf divide cutAux cutOpen
 head-is b = refl
@@ -161,10 +157,6 @@ module _ (h x o r : List ℕ) (eh : headM h ≡ length h) (ex : auxM (securityOf
         take-at o r (length o) refl,
         drop-at o r (length o) refl,
       )
-
-  pub rest-joined : restOf (h ++ (x ++ (o ++ r))) ≡ r
-  unfolding restOf
-  rest-joined = ap (λ (d : Division). d .rest) divide-joined
 
   pub view-joined : view (h ++ (x ++ (o ++ r))) ≡ record {
     size = length (h ++ (x ++ (o ++ r)));

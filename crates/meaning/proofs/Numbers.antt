@@ -52,9 +52,6 @@ leAt-after k x s at =
     leAt-same k (x ++ s) s (length x + at) at
     (λ i l. let e : length x + at + i ≡ length x + (at + i) = omega arith in rw e (getD-append-add x s (at + i) 0))
 
-pub leAt-front : (k : ℕ) (x s : List ℕ) (at : ℕ) → at + k ≤ length x → leAt k (x ++ s) at ≡ leAt k x at
-leAt-front k x s at h = leAt-same k (x ++ s) x at at (λ i l. List·getD-append x s 0 (at + i) (omega arith))
-
 -- ---- a number's octets give it back
 cons : (k : ℕ) (x : ℕ) (s : List ℕ) (at : ℕ) → leAt k (x ∷ s) (suc at) ≡ leAt k s at
 cons k x s at = leAt-same k (x ∷ s) s (suc at) at (λ i l. let e : suc at + i ≡ suc (at + i) = omega arith in rw e)

@@ -30,10 +30,6 @@ pub on-try : (u v : Found) (r : Refusal) (k : ℕ → Judged) (i : ℕ) (z : Jud
 unfolding try
 on-try u v r k i z d h e = rw (sym d ∙ h) e
 
-pub off-try : (u v : Found) (r : Refusal) (k : ℕ → Judged) (z : Judged) → u ≡ v → u ≡ Nothing → z ≡ Refused r → z ≡ try v r k
-unfolding try
-off-try u v r k z d h e = rw (sym d ∙ h) e
-
 -- a callee's Boolean u is the test t
 pub said : (t u b : Bool) → u ≡ t → u ≡ b → t ≡ b
 said t u b d h = sym d ∙ h

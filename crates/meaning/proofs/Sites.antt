@@ -80,9 +80,6 @@ module _ (s : List ℕ) (rule : siteRule s ≡ true) where
   unfolding siteRule
   rule-records = and-both (contentsRight s) (recordsRight s) rule .1
 
-  pub rule-long : 42 ≤ length s
-  rule-long = contents-long s rule-contents
-
   pub rule-limit : (k : ℕ) → k < 7 → countOf s k ≤ limitOf k
   rule-limit = contents-limit s rule-contents
 
@@ -131,9 +128,6 @@ module _ (s : List ℕ) (rule : siteRule s ≡ true) where
   pub few-keys : countOf s 3 ≤ 16
   unfolding limitOf
   few-keys = rule-limit 3 (omega arith)
-
-  pub length-settings : length (settingsOf s) ≡ 31
-  length-settings = ap length rule-settings ∙ length-take-le 31 (drop 42 s) (omega (arith, rule-smallest, length-drop 42 s))
 
   pub rule-largest : length s ≤ 3613
   unfolding widthOf limitOf startOf
@@ -241,10 +235,6 @@ module _ (s : List ℕ) where
   pub device-of : (d : ℕ) → d < countOf s 1 → getD (tablesOf s .devices) d noDevice ≡ deviceAt (body s 1) d
   unfolding tablesOf
   device-of d h = getD-tab (deviceAt (body s 1)) noDevice (countOf s 1) d h
-
-  pub length-counters : length (storeOf s .counters) ≡ countOf s 1
-  unfolding storeOf
-  length-counters = length-tab (counterAt (body s 1)) (countOf s 1)
 
   pub counter-of : (d : ℕ) → d < countOf s 1 → getD (storeOf s .counters) d 0 ≡ counterAt (body s 1) d
   unfolding storeOf

@@ -73,27 +73,10 @@ module _ (xs s : List ℕ) where
   pub part-in : (i a n : ℕ) → i + length xs ≤ n → part a n (sets s (a + i) xs) ≡ sets (part a n s) i xs
   part-in i a n h = ap (take n) (drop-sets-add xs s i a) ∙ take-sets-lt xs (drop a s) i n h
 
-  -- what was stored
-  pub part-stored : (a : ℕ) → a + length xs ≤ length s → part a (length xs) (sets s a xs) ≡ xs
-  part-stored a h =
-      let e : a ≡ a + 0 = omega arith in
-      ap (λ (k : ℕ). part a (length xs) (sets s k xs)) e
-      ∙ part-in 0 a (length xs) (omega arith)
-      ∙ sets-whole xs (part a (length xs) s) (length-take-le (length xs) (drop a s) (omega (arith, length-drop a s)))
-
 -- ---- what is put in front of a buffer
 pub sets-beside : (x o : List ℕ) → length x ≤ length o → sets o 0 x ≡ beside x o
 unfolding beside
 sets-beside x o h = let e : 0 + length x ≡ length x = omega arith in sets-eq x o 0 (omega arith) ∙ rw e
-
--- a run from where the front ends makes the front longer
-pub sets-front : (x y o : List ℕ) → length x + length y ≤ length o → sets (beside x o) (length x) y ≡ beside (x ++ y) o
-sets-front x y o h =
-    let e : 0 + length x ≡ length x = omega arith in
-    ap (λ (r : List ℕ). sets r (length x) y) (sym (sets-beside x o (omega arith)))
-    ∙ ap (λ (k : ℕ). sets (sets o 0 x) k y) (sym e)
-    ∙ sym (sets-append o 0 x y)
-    ∙ sets-beside (x ++ y) o (omega (arith, length-append x y))
 
 pub length-beside : (x o : List ℕ) → length x ≤ length o → length (beside x o) ≡ length o
 length-beside x o h = ap length (sym (sets-beside x o h)) ∙ length-sets o 0 x

@@ -47,18 +47,6 @@ inner-fcs x =
     let e : length (x ++ fcs x) - 2 ≡ length x = omega (arith, length-append x (fcs x), length-fcs x) in
     rw e (take-at x (fcs x) (length x) refl)
 
-pub right-fcs : (x : List ℕ) → fcsRight (x ++ fcs x) ≡ true
-unfolding fcsRight
-right-fcs x =
-    let e : length (x ++ fcs x) - 2 ≡ length x = omega (arith, length-append x (fcs x), length-fcs x) in
-    rw (inner-fcs x, e, drop-at x (fcs x) (length x) refl) (same-self (fcs x))
-
-pub right-ends : (f : List ℕ) → fcsRight f ≡ true → f ≡ inner f ++ fcs (inner f)
-unfolding fcsRight inner
-right-ends f e =
-    sym (take-append-drop (length f - 2) f)
-    ∙ ap (λ (r : List ℕ). take (length f - 2) f ++ r) (same-eq (drop (length f - 2) f) (fcs (inner f)) e)
-
 -- ---- by the number in the last two octets
 module _ (f : List ℕ) (small : (i : ℕ) → getD f i 0 < 256) where
   pub right-number : 2 ≤ length f → eqb (leAt 2 f (length f - 2)) (sum (inner f)) ≡ fcsRight f
