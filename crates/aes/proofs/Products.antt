@@ -10,7 +10,6 @@ use lib.Arith.{lt-one}
 use borrow.Author.Tests.{eq-eqb, ne-eqb}
 use Rattle.meaning.specs.Octets.{pick}
 use Rattle.meaning.specs.Field.{xtime, productBits, product}
-use Rattle.meaning.proofs.Computed.{agree}
 
 -- a multiplier of n bits has the same product at one bit more
 more : (n a b : ℕ) → b < 2 ^ n → productBits (suc n) a b ≡ productBits n a b

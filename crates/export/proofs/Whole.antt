@@ -13,7 +13,7 @@ use Rattle.meaning.specs.declared.Request.{Request}
 use Rattle.meaning.specs.declared.Built.{Built}
 use Rattle.meaning.proofs.Tests.{off-lt}
 use Rattle.export.specs.Packed.{packed, requestFrom}
-use Rattle.export.specs.Boundary.{Exchange, exchange, told, receivedBy, delivery, delivered, builtBy}
+use Rattle.export.specs.Boundary.{exchange, told, receivedBy, delivery, delivered, builtBy}
 
 pub received-is : (r : Received) (s′ o′ a′ s f o a : List ℕ)
     → 48 ≤ length a → outcome r s′ o′ ≡ received s f o → a′ ≡ sets a 0 (packed r)

@@ -1,5 +1,5 @@
 -- Parts of a list at its end, and the division by the cuts that a callee found. Assumes nothing.
-use mathlib.Core.Path.{_≡_, refl, sym, ap, _∙_}
+use mathlib.Core.Path.{_≡_, sym, _∙_}
 use mathlib.Core.Bool.{Bool, true, false, _&&_}
 use mathlib.Core.List.{List, []}
 use Prim.Native.Nat.{ℕ, _+_, _-_, _≤_, _<_}
@@ -8,12 +8,11 @@ use lib.ListN.{length, take, drop, length-drop, drop-of-length-le}
 use lib.Seq.{take-all, take-nil}
 use lib.Dec.{leb}
 use borrow.Author.Tests.{le-leb, lt-leb}
-use Rattle.meaning.specs.Octets.{pick, part}
+use Rattle.meaning.specs.Octets.{part}
 use Rattle.meaning.specs.Frame.{
   headerOf,
   levelOf,
   tagLen,
-  divide,
   cutsOf,
   view,
   openEnd,
@@ -21,11 +20,10 @@ use Rattle.meaning.specs.Frame.{
   pendingRight,
   bodied,
 }
-use Rattle.meaning.specs.Fcs.{inner}
 use Rattle.meaning.specs.declared.Cuts.{Cuts}
 use Rattle.meaning.specs.declared.Header.{Header}
 use Rattle.meaning.proofs.Frame.{head-is, aux-is, opens-is}
-use Rattle.frame.specs.Parts.{divided, openPayload}
+use Rattle.frame.specs.Parts.{divided}
 
 -- past the end there is nothing
 pub part-none : (s : List ℕ) (at n : ℕ) → length s ≤ at → _≡_ {A = List ℕ} [] (part at n s)

@@ -1,7 +1,6 @@
 -- Open payloads of whole frames, by computing: the FCS's octets stand at the end and are not looked at. Assumes nothing.
 use mathlib.Core.Path.{_≡_, refl}
-use mathlib.Core.List.{List, [], _∷_}
-use Prim.Native.Nat.{ℕ}
+use mathlib.Core.List.{[], _∷_}
 use Rattle.meaning.specs.Octets.{leAt}
 use Rattle.meaning.specs.Frame.{
   typeOf,

@@ -21,7 +21,7 @@ use contract.Monad.{Fun, fact}
 use types.Kit.{Given, Item, ‵, raw, _⊛_, ⋆, Post, runs, lands, Seq, _$_, _∵_, !, qed, move, use1, use2, split, join, fjoin, frame, done}
 use types.Run.{Opds}
 use sound.WpLaws.{FmC}
-use denote.RattleType.{RattleType, owns}
+use denote.RattleType.{RattleType}
 use denote.Laws.{Is}
 use denote.Plain.{uint-makes}
 use denote.Builtin.{u8, usize}

@@ -1,12 +1,11 @@
 -- `wirdhalef_open_payload` meets its contract: by the cuts that were read. Assumes nothing.
-use mathlib.Core.Path.{_≡_, refl, sym, ap, _∙_}
 use native.Mathlib.Omega.{arith}
 use borrow.Author.Tests.{not-true, not-false}
 use lib.ListN.{length-take}
 use Rattle.meaning.specs.Fcs.{inner}
 use Rattle.meaning.proofs.Tests.{tests, calls}
 use Rattle.meaning.proofs.Lengths.{bounded}
-use Rattle.export.specs.Boundary.{openPlace, placeIn}
+use Rattle.export.specs.Boundary.{openPlace}
 use Rattle.export.proofs.Places.{placed}
 use borrow.Author.Needs.{needs}
 use Rattle.export.proofs.wirdhalef_open_payload.Statement.{statement}

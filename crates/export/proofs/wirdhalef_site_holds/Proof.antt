@@ -1,5 +1,5 @@
 -- `wirdhalef_site_holds` meets its contract: by the verdict on the site. Assumes nothing.
-use mathlib.Core.Path.{_≡_, refl, sym, ap, _∙_}
+use mathlib.Core.Path.{sym, ap, _∙_}
 use Rattle.meaning.specs.Build.{bit}
 use borrow.Author.Needs.{needs}
 use Rattle.export.proofs.wirdhalef_site_holds.Statement.{statement}

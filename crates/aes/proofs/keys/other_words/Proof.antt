@@ -2,7 +2,6 @@
 use mathlib.Core.Path.{_≡_, refl}
 use Prim.Native.Nat.{_-_, _≤_}
 use native.Mathlib.Omega.{arith}
-use borrow.Author.Needs.{needs}
 use Rattle.aes.specs.Schedule.{grown}
 use Rattle.aes.proofs.Expansion.{other-made}
 use Rattle.aes.proofs.keys.other_words.Statement.{statement}

@@ -1,10 +1,9 @@
 -- `read_header` meets its contract: field by field; sequence number and addresses are the reader's.
 use borrow.Author.Needs.{needs}
-use mathlib.Core.Path.{_≡_, ap, sym, _∙_}
+use mathlib.Core.Path.{_≡_}
 use mathlib.Core.List.{List}
 use Prim.Native.Nat.{ℕ}
 use Rattle.meaning.specs.Frame.{typeOf, securityOf, pendingOf, requestOf, versionOf, compressionOf, destinationMode, sourceMode, destinationLen, destinationOf, sourceOf, headerOf}
-use Rattle.meaning.specs.declared.Header.{Header}
 use Rattle.reader.specs.Fields.{fieldsOf}
 use Rattle.reader.specs.declared.Fields.{Fields}
 use Rattle.frame.proofs.header.read_header.Statement.{statement}

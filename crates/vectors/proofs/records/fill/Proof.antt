@@ -1,5 +1,5 @@
 -- `fill` is safe and ends. The loop's invariant: the place is within the buffer, which is as long as it was. Assumes nothing.
-use mathlib.Core.Path.{_≡_, refl, _∙_}
+use mathlib.Core.Path.{_≡_}
 use Prim.Native.Nat.{_-_, _≤_}
 use native.Mathlib.Omega.{arith}
 use borrow.Author.Needs.{needs}
