@@ -4,14 +4,16 @@
 -- triedOf      the trial after one that was tried
 -- answerOf     the answer where the search is over
 -- devicesOf    a table's records, with empty ones up to 64
+-- foundAt      the search in a whole site
 use Prim.Native.Nat.{ℕ, _+_, _-_, _*_}
 use mathlib.Core.Bool.{Bool, true, false}
 use mathlib.Core.List.{List}
 use lib.ListN.{getD, take}
 use lib.Dec.{ltb, eqb}
 use Rattle.meaning.specs.Octets.{pick, scan, tab}
-use Rattle.meaning.specs.Site.{records, deviceAt}
-use Rattle.meaning.specs.Steps.{isPeer, noDevice}
+use Rattle.meaning.specs.Site.{records, deviceAt, siteRule, tablesOf}
+use Rattle.meaning.specs.Steps.{isPeer, noDevice, handleRow}
+use Rattle.meaning.specs.declared.Address.{Address}
 use Rattle.meaning.specs.declared.Device.{Device}
 use Rattle.meaning.specs.declared.Found.{Found}
 use Rattle.meaning.specs.declared.Found.the-variants.{At, Nothing}
@@ -51,3 +53,7 @@ devicesOf s = tab (recordOf s (records 17 s)) 64
 -- the table's own records alone
 unfoldable pub devicesIn : List ℕ → List Device
 devicesIn s = take (records 17 s) (devicesOf s)
+
+-- nothing in a site that breaks a rule
+unfoldable pub foundAt : List ℕ → ℕ → Address → Found
+foundAt s key p = pick (siteRule s) (handleRow (tablesOf s .handles) (tablesOf s .devices) key p) Nothing

@@ -1,6 +1,6 @@
 // Device records lent as a slice of structs, tried in the order of the key's handles. The search of the handle table, which is
 // octets, and the comparison are covered; the layer over the slice of structs is proved by hand. Nothing that is lent changes.
-// Clients call `find_in`, whose parameters are plain: it gives the answer of search::handle_row, for every key and peer.
+// Clients call `find_in`, whose parameters are plain: it gives the answer of search::handle_row, for every key and peer; or `find_at`, which asks nothing of them.
 use meaning::Address;
 use meaning::Device;
 use meaning::Found;
@@ -10,7 +10,7 @@ ghost use lib.ListN.{length, getD};
 ghost use Rattle.meaning.specs.Octets.{tab};
 ghost use Rattle.meaning.specs.Site.{records, deviceAt};
 ghost use Rattle.meaning.specs.Steps.{noDevice, handleRow};
-ghost use Rattle.devices.specs.Devices.{handleFrom, triedOf, answerOf, devicesOf, devicesIn};
+ghost use Rattle.devices.specs.Devices.{handleFrom, triedOf, answerOf, devicesOf, devicesIn, foundAt};
 
 // Whose record is sought, by which key.
 pub struct Sought {
@@ -136,4 +136,14 @@ pub fn find_in(handles: &[u8], devices: &[u8], key: usize, p: Address) -> Found
     ensures { λ r. ⌜ r ≡ handleRow (now (handles .entry)) (tab (deviceAt (now (devices .entry))) (records 17 (now (devices .entry)))) key p ⌝ }
 {
     find_lent(devices, handles, Sought { key: key, peer: p })
+}
+
+// The same in a site of any content and length; nothing is found in one that breaks a rule.
+pub fn find_at(site: &[u8], key: usize, p: Address) -> Found
+    ensures { λ r. ⌜ r ≡ foundAt (now (site .entry)) key p ⌝ }
+{
+    if site::site_holds(site) {
+        return find_in(site::table(site, 6), site::table(site, 1), key, p);
+    }
+    Found::Nothing
 }

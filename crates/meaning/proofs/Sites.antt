@@ -1,7 +1,8 @@
 -- What the site rules say of a site's octets: the table of contents, where each body lies, the tests of the records, the tables. Assumes nothing.
-use mathlib.Core.Path.{_≡_, sym}
-use Prim.Native.Nat.{ℕ, zero, suc, _+_, _*_, _-_, _≤_, _<_}
+use mathlib.Core.Path.{_≡_, sym, ap, _∙_}
+use Prim.Native.Nat.{ℕ, zero, suc, _+_, _*_, _/_, _-_, _≤_, _<_}
 use native.Mathlib.Decide.{decLt}
+use native.Mathlib.Nat.{mul-div-cancel-left}
 use native.Mathlib.Omega.{arith}
 use mathlib.Core.Bool.{true, false, _&&_}
 use mathlib.Core.List.{List}
@@ -9,8 +10,8 @@ use lib.ListN.{length, getD, drop, length-drop}
 use lib.Seq.{length-take-le, take-take}
 use lib.Dec.{leb, eqb}
 use borrow.Author.Tests.{leb-true, ltb-true, eqb-true, eq-eqb, not-true}
-use Rattle.meaning.specs.Octets.{part, every}
-use Rattle.meaning.specs.Site.{widthOf, limitOf, leastOf, countOf, placeOf, startOf, entryRight, contentsRight, body, settingsRight, deviceRight, levelRight, lookupRight, usageRight, handleRight, clash, clashes, distinct, recordsRight, siteRule, deviceAt, counterAt, settingsOf, tablesOf, storeOf}
+use Rattle.meaning.specs.Octets.{part, every, tab}
+use Rattle.meaning.specs.Site.{widthOf, limitOf, leastOf, countOf, placeOf, startOf, entryRight, contentsRight, body, records, settingsRight, deviceRight, levelRight, lookupRight, usageRight, handleRight, clash, clashes, distinct, recordsRight, siteRule, deviceAt, counterAt, settingsOf, tablesOf, storeOf}
 use Rattle.meaning.specs.Steps.{noDevice}
 use Rattle.meaning.proofs.Lists.{and-both}
 use Rattle.meaning.proofs.Scan.{every-at, none-at}
@@ -239,3 +240,31 @@ module _ (s : List ℕ) where
   pub counter-of : (d : ℕ) → d < countOf s 1 → getD (storeOf s .counters) d 0 ≡ counterAt (body s 1) d
   unfolding storeOf
   counter-of d h = getD-tab (counterAt (body s 1)) 0 (countOf s 1) d h
+
+-- ---- a body has as many records as the table of contents says
+pub records-is : (s : List ℕ) → siteRule s ≡ true → (k : ℕ) → k < 7 → 0 < widthOf k → records (widthOf k) (body s k) ≡ countOf s k
+records-is s rule k h w = ap (λ (n : ℕ). n / widthOf k) (length-body s rule k h) ∙ mul-div-cancel-left (countOf s k) w
+
+pub seventeen : (s : List ℕ) → siteRule s ≡ true → records 17 (body s 1) ≡ countOf s 1
+unfolding widthOf
+seventeen s rule = records-is s rule 1 (omega arith) (omega arith)
+
+-- the devices of a body are those of the tables
+pub devices-are : (s : List ℕ) → siteRule s ≡ true → tab (deviceAt (body s 1)) (records 17 (body s 1)) ≡ tablesOf s .devices
+unfolding tablesOf
+devices-are s rule = ap (tab (deviceAt (body s 1))) (seventeen s rule)
+
+-- a handle names a device; hs and ds are the two bodies as a callee gives them
+pub handles-in : (s hs ds : List ℕ) → siteRule s ≡ true → hs ≡ body s 6 → ds ≡ body s 1
+    → (j : ℕ) → j < records 2 hs → getD hs (2 * j + 1) 0 < records 17 ds
+unfolding widthOf
+handles-in s hs ds rule a b j h =
+    let n : records 2 (body s 6) ≡ countOf s 6 = records-is s rule 6 (omega arith) (omega arith) in
+    let m : records 17 (body s 1) ≡ countOf s 1 = seventeen s rule in
+    let i : j < countOf s 6 = rw (a, n) at h in
+    rw (a, b, m) (rule-handles s rule j i)
+
+-- and there are few devices
+pub devices-short : (s ds : List ℕ) → siteRule s ≡ true → ds ≡ body s 1 → length ds ≤ 1088
+unfolding widthOf
+devices-short s ds rule e = rw (e, length-body s rule 1 (omega arith)) (omega (arith, few-devices s rule))

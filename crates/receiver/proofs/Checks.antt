@@ -3,7 +3,6 @@ use mathlib.Core.Path.{_≡_, refl, ap, sym, _∙_}
 use mathlib.Core.Bool.{Bool, true, false, _&&_, _||_, not}
 use mathlib.Core.List.{List}
 use Prim.Native.Nat.{ℕ, _+_, _*_, _/_, _≤_, _<_}
-use native.Mathlib.Nat.{mul-div-cancel-left}
 use native.Mathlib.Omega.{arith}
 use lib.ListN.{length, getD, drop}
 use lib.Dec.{eqb}
@@ -44,23 +43,10 @@ use Rattle.meaning.specs.declared.Judged.the-variants.{Refused, Plain, Secure}
 use Rattle.meaning.proofs.Tests.{and-right}
 use Rattle.meaning.proofs.Lengths.{level-bound}
 use Rattle.meaning.proofs.Tabs.{length-tab}
-use Rattle.meaning.proofs.Sites.{length-body, device-of, rule-handles}
+use Rattle.meaning.proofs.Sites.{device-of, records-is, seventeen, devices-are}
 use Rattle.meaning.proofs.Rows.{level-below, device-below}
 use Rattle.search.specs.Rows.{keyRowBy, implicitRow}
 use Rattle.search.proofs.Laws.{keySource-length}
-
--- ---- a body has as many records as the table of contents says
-pub records-is : (s : List ℕ) → siteRule s ≡ true → (k : ℕ) → k < 7 → 0 < widthOf k → records (widthOf k) (body s k) ≡ countOf s k
-records-is s rule k h w = ap (λ (n : ℕ). n / widthOf k) (length-body s rule k h) ∙ mul-div-cancel-left (countOf s k) w
-
-seventeen : (s : List ℕ) → siteRule s ≡ true → records 17 (body s 1) ≡ countOf s 1
-unfolding widthOf
-seventeen s rule = records-is s rule 1 (omega arith) (omega arith)
-
--- the devices of a body are those of the tables
-devices-are : (s : List ℕ) → siteRule s ≡ true → tab (deviceAt (body s 1)) (records 17 (body s 1)) ≡ tablesOf s .devices
-unfolding tablesOf
-devices-are s rule = ap (tab (deviceAt (body s 1))) (seventeen s rule)
 
 -- ---- 13
 pub by-handles : (s st : List ℕ) (h : Header) (key : ℕ) (p : Address) (hs ds : List ℕ) (u w : Found) (z : Judged)
@@ -74,16 +60,6 @@ by-handles s st h key p hs ds u w z rule a b c d e f g =
 pub at-handle : (hs : List ℕ) (key j d : ℕ) → d ≡ handleOf hs j → Secure key j d ≡ try (At j) UnavailableDevice (λ i. Secure key i (handleOf hs i))
 unfolding try
 at-handle hs key j d e = rw e
-
--- what handle_row asks of the handles
-pub handles-in : (s hs ds : List ℕ) → siteRule s ≡ true → hs ≡ body s 6 → ds ≡ body s 1
-    → (j : ℕ) → j < records 2 hs → getD hs (2 * j + 1) 0 < records 17 ds
-unfolding widthOf
-handles-in s hs ds rule a b j h =
-    let n : records 2 (body s 6) ≡ countOf s 6 = records-is s rule 6 (omega arith) (omega arith) in
-    let m : records 17 (body s 1) ≡ countOf s 1 = seventeen s rule in
-    let i : j < countOf s 6 = rw (a, n) at h in
-    rw (a, b, m) (rule-handles s rule j i)
 
 -- ---- 12
 pub by-usage : (s : List ℕ) (h : Header) (os : List ℕ) (key command : ℕ) (us : List ℕ) (u w : Found) (z : Judged)

@@ -41,9 +41,8 @@ use Rattle.meaning.proofs.Tests.{and-right}
 use Rattle.meaning.proofs.Lengths.{no-tag, bounded}
 use Rattle.meaning.proofs.Stores.{sets-beside, take-beside}
 use Rattle.meaning.proofs.Ccm.{length-text}
-use Rattle.meaning.proofs.Sites.{rule-limit, rule-lookups, rule-handles, device-of, counter-of}
+use Rattle.meaning.proofs.Sites.{rule-limit, rule-lookups, rule-handles, device-of, counter-of, records-is}
 use Rattle.meaning.proofs.Ways.{secure-fits}
-use Rattle.receiver.proofs.Checks.{records-is}
 use Rattle.receiver.specs.Parts.{keyMode, Plainly, Unsecured, keyOfSite, extendedOf, committed, unlocked, settled}
 use Rattle.receiver.proofs.Bodies.{header-is, view-aux, view-cuts, view-size}
 

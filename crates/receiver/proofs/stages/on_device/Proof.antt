@@ -2,7 +2,8 @@
 use borrow.Author.Needs.{needs}
 use Rattle.meaning.proofs.Rows.{handle-below}
 use Rattle.meaning.specs.Receive.{try}
-use Rattle.receiver.proofs.Checks.{by-handles, found-handle, handles-in}
+use Rattle.meaning.proofs.Sites.{handles-in}
+use Rattle.receiver.proofs.Checks.{by-handles, found-handle}
 use Rattle.receiver.proofs.stages.on_device.Statement.{statement}
 use Rattle.receiver.proofs.stages.on_device.Tie as tie
 
