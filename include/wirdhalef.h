@@ -1,13 +1,23 @@
 /*
  * Receives and builds secured frames of IEEE Std 802.15.4-2011 over one lent
- * site file. The functions are proved for every content and every length of
- * what they are lent, and ask nothing of their caller but what C asks of any
+ * site. The functions are proved for every content and every length of what
+ * they are lent, and ask nothing of their caller but what C asks of any
  * pointer: each pointer names as many octets as the length after it says
  * (with length 0 it is still no null pointer), a buffer that is written to
  * overlaps no other, and each length is at most PTRDIFF_MAX.
  *
  * Nothing is kept between calls, nothing is allocated, and a refusal changes
  * no octet that was lent.
+ *
+ * The file and the site: wirdhalef_load makes the site, a buffer of
+ * WIRDHALEF_SITE_LEN octets with fixed places, from a site file. Receiving and
+ * building are lent the site and raise counters in it.
+ *
+ * Over a restart, keep the site's octets: they hold the raised counters, and
+ * they can be stored and lent again as they are, with no load. Loading the old
+ * file again would take the counters back to the file's: frames that were
+ * accepted already would be accepted again, and frames would be built under
+ * counters that were used already.
  *
  * Link with libexport.a (x86-64 Linux).
  */
@@ -21,11 +31,12 @@
 extern "C" {
 #endif
 
-/* The statuses. Receiving answers 0 to 15, building 0, 1, 2, 8, 11, 14, 16, 17. */
+/* The statuses. Loading answers 0, 1, 2, receiving 0 to 15, building 0, 1, 2, 8, 11, 14, 16, 17. */
 enum {
     WIRDHALEF_SUCCESS = 0,
-    WIRDHALEF_SITE = 1,                        /* the site breaks a site rule */
-    WIRDHALEF_ROOM = 2,                        /* the output is shorter than 127 octets (or the answer than 48) */
+    WIRDHALEF_SITE = 1,                        /* the site (loading: the file) breaks a site rule */
+    WIRDHALEF_ROOM = 2,                        /* the output is shorter than 127 octets (or the answer than 48);
+                                                  loading: the site has not its length */
     WIRDHALEF_LENGTH = 3,                      /* the frame has under 5 or over 127 octets */
     WIRDHALEF_FCS = 4,                         /* the last two octets are not the FCS of the others */
     WIRDHALEF_MALFORMED = 5,                   /* the frame cannot be divided */
@@ -91,6 +102,46 @@ enum {
     WIRDHALEF_REQUEST_KEY_SOURCE = 19,  /* 8 octets; mode 2 uses the first 4 */
     WIRDHALEF_REQUEST_KEY_INDEX = 27
 };
+
+/* The octets of a site, and of the largest file. */
+enum {
+    WIRDHALEF_SITE_LEN = 3603,
+    WIRDHALEF_FILE_MOST = 3613
+};
+
+/*
+ * Where the parts of a site stand. Numbers are least octet first. The header
+ * counts the records of each kind, 2 octets a count; then each kind has a
+ * region with room for as many records as there may be, which stand at its
+ * front. A record is as in the file. Free are octets 14 to 31 and, in each
+ * region, those past its records: any content will do there, no function
+ * reads them, and none but wirdhalef_load changes them.
+ */
+enum {
+    WIRDHALEF_SITE_SETTINGS_COUNT = 0, /* always 1 */
+    WIRDHALEF_SITE_DEVICES_COUNT = 2,
+    WIRDHALEF_SITE_LEVELS_COUNT = 4,
+    WIRDHALEF_SITE_KEYS_COUNT = 6,
+    WIRDHALEF_SITE_LOOKUPS_COUNT = 8,
+    WIRDHALEF_SITE_USAGES_COUNT = 10,
+    WIRDHALEF_SITE_HANDLES_COUNT = 12,
+    WIRDHALEF_SITE_SETTINGS = 32,      /* 1 record of 35 octets; the own counter is its octets 31 to 34 */
+    WIRDHALEF_SITE_DEVICES = 67,       /* up to 64 of 17; a device's counter is its octets 12 to 15 */
+    WIRDHALEF_SITE_LEVELS = 1155,      /* up to 16 of 5 */
+    WIRDHALEF_SITE_KEYS = 1235,        /* up to 16 of 16 */
+    WIRDHALEF_SITE_LOOKUPS = 1491,     /* up to 64 of 22 */
+    WIRDHALEF_SITE_USAGES = 2899,      /* up to 64 of 3 */
+    WIRDHALEF_SITE_HANDLES = 3091      /* up to 256 of 2 */
+};
+
+/*
+ * Makes the site of a file and gives the status: 1 where the file breaks a
+ * rule, else 2 where the site has not exactly 3603 octets, else 0. On success
+ * all octets of the site are written, those that are free with 0. A refusal
+ * changes nothing.
+ */
+uint8_t wirdhalef_load(const uint8_t *file, size_t file_len,
+                       uint8_t *site, size_t site_len);
 
 /* 1 if the site keeps its rules, else 0. Nothing changes. */
 uint8_t wirdhalef_site_holds(const uint8_t *site, size_t site_len);

@@ -25,15 +25,17 @@ use std::path::Path;
 use std::time::{Duration, Instant};
 
 use common::{command, LOG};
+use second::records::Kind;
+use second::site::{device_counter_at, region_at};
 use second::testkit::{log_of, probe_frame, probe_request, probed, run_of};
-use second::testkit::{summed_again, Allowance, Rng};
+use second::testkit::{summed_again, Allowance, Rng, SiteSpec};
 
 const KEY: [u8; 16] = [0x3c; 16];
 const LEAST: Duration = Duration::from_millis(200);
 /// The frames of a log.
 const LOGGED: u32 = 20_000;
 /// Settings and first device: where the calls of this program change a site.
-const CHANGED: Range<usize> = 42..94;
+const CHANGED: Range<usize> = region_at(Kind::Settings)..device_counter_at(0) + 4;
 
 /// A call of both sides, and how many frames one takes.
 struct Row {
@@ -80,6 +82,23 @@ fn row(
     Row { title, frames, ours: Box::new(call), second: Box::new(other_call) }
 }
 
+/// A file loaded over a site; no frame is taken, and the load counts as one.
+fn loading(title: String, spec: &SiteSpec) -> Row {
+    let file = spec.encode();
+    let other = file.clone();
+    row(
+        title,
+        &spec.site(),
+        1,
+        move |site, _| {
+            gateway::raw::load(&file, site);
+        },
+        move |site, _| {
+            second::load(&other, site);
+        },
+    )
+}
+
 fn receiving(title: String, site: &[u8], frame: Vec<u8>) -> Row {
     let other = frame.clone();
     row(
@@ -87,7 +106,7 @@ fn receiving(title: String, site: &[u8], frame: Vec<u8>) -> Row {
         site,
         1,
         move |site, out| {
-            gateway::receive(site, &frame, out);
+            gateway::raw::receive(site, &frame, out);
         },
         move |site, out| {
             second::receive(site, &other, out);
@@ -104,7 +123,7 @@ fn many(title: String, site: &[u8], len: usize) -> Row {
         site,
         100,
         move |site, out| {
-            gateway::receive_many(site, &run, out);
+            gateway::raw::receive_many(site, &run, out);
         },
         move |site, out| {
             if second::site_holds(site) {
@@ -126,7 +145,7 @@ fn building(title: String, site: &[u8], level: u8, len: usize) -> Row {
         site,
         1,
         move |site, out| {
-            gateway::build(site, &own, &[], &private, out);
+            gateway::raw::build(site, &own, &[], &private, out);
         },
         move |site, out| {
             second::build(site, &request, &[], &other, out);
@@ -139,23 +158,30 @@ fn frames(len: usize, count: u32) -> Vec<Vec<u8>> {
     (0..count).map(|counter| probe_frame(counter, 6, &KEY, &vec![7; len])).collect()
 }
 
-/// Short and full frames on a small and on the largest site, where what is
-/// sought stands first: a title, the private length and the site.
-fn shapes() -> Vec<(String, usize, Vec<u8>)> {
+/// A small and the largest site, where what is sought stands first.
+fn sites() -> [(&'static str, SiteSpec); 2] {
     let small = probed(0, KEY);
     let full = Allowance::Largest.apply(&mut Rng::new(1), &small);
+    [("small site", small), ("full site", full)]
+}
+
+/// Short and full frames on each site: a title, the private length and the
+/// site.
+fn shapes() -> Vec<(String, usize, SiteSpec)> {
     let mut all = Vec::new();
-    for (name, site) in [("small site", small.encode()), ("full site", full)] {
+    for (name, spec) in sites() {
         for (size, len) in [("short", 4), ("full", 102)] {
-            all.push((format!("{size}, {name}"), len, site.clone()));
+            all.push((format!("{size}, {name}"), len, spec.clone()));
         }
     }
     all
 }
 
 fn rows() -> Vec<Row> {
-    let mut rows = Vec::new();
-    for (shape, len, site) in shapes() {
+    let mut rows: Vec<Row> =
+        sites().iter().map(|(name, spec)| loading(format!("load, {name}"), spec)).collect();
+    for (shape, len, spec) in shapes() {
+        let site = spec.site();
         let good = frames(len, 1).remove(0);
         let mut tagged = good.clone();
         tagged[good.len() - 3] ^= 1;
@@ -172,8 +198,8 @@ fn rows() -> Vec<Row> {
 
 /// The inputs of the log program, with titles.
 fn logs(count: u32) -> Vec<(String, Vec<u8>)> {
-    let log = |(shape, len, site): (String, usize, Vec<u8>)| {
-        (format!("log, accepted, {shape}"), log_of(&site, &frames(len, count)))
+    let log = |(shape, len, spec): (String, usize, SiteSpec)| {
+        (format!("log, accepted, {shape}"), log_of(&spec.encode(), &frames(len, count)))
     };
     shapes().into_iter().map(log).collect()
 }

@@ -4,6 +4,12 @@
 
 mod archive {
     extern "C" {
+        pub fn wirdhalef_load(
+            file: *const u8,
+            file_len: usize,
+            site: *mut u8,
+            site_len: usize,
+        ) -> u8;
         pub fn wirdhalef_site_holds(site: *const u8, site_len: usize) -> u8;
         pub fn wirdhalef_receive(
             site: *mut u8,
@@ -41,6 +47,10 @@ mod archive {
 
 // In each block every pointer and length is that of a slice that lives
 // through the call, and no two slices that can be written to overlap.
+
+pub fn load(file: &[u8], site: &mut [u8]) -> u8 {
+    unsafe { archive::wirdhalef_load(file.as_ptr(), file.len(), site.as_mut_ptr(), site.len()) }
+}
 
 pub fn site_holds(site: &[u8]) -> u8 {
     unsafe { archive::wirdhalef_site_holds(site.as_ptr(), site.len()) }

@@ -1,6 +1,21 @@
-//! Receives and builds secured frames of IEEE Std 802.15.4-2011 over one lent
-//! site file. The work is done by the proved archive; this package only packs
-//! and unpacks what passes its boundary (`include/wirdhalef.h`).
+//! Receives and builds secured frames of IEEE Std 802.15.4-2011 over a site
+//! that is loaded from a site file. The work is done by the proved archive;
+//! this package only packs and unpacks what passes its boundary
+//! (`include/wirdhalef.h`).
+//!
+//! ```no_run
+//! fn main() -> Result<(), Box<dyn std::error::Error>> {
+//!     let mut site = gateway::Site::load(&std::fs::read("site.bin")?)?;
+//!     let mut out = [0; gateway::ROOM];
+//!     let received = site.receive(&[0x02, 0x00, 0x6a, 0xe4, 0x79], &mut out);
+//!     assert_eq!(received.status, 0);
+//!     // Over a restart the octets are kept, not the file: they have the
+//!     // counters.
+//!     std::fs::write("kept.bin", site.octets())?;
+//!     site = gateway::Site::from_octets(&std::fs::read("kept.bin")?)?;
+//!     Ok(())
+//! }
+//! ```
 
 #[cfg(linked)]
 mod boundary;
@@ -9,6 +24,10 @@ mod boundary;
 #[path = "program.rs"]
 mod boundary;
 mod packed;
+pub mod raw;
+mod site;
+
+pub use site::{Site, SiteError, SITE_LEN};
 
 /// The shortest output buffer that receiving and building take.
 pub const ROOM: usize = 127;
@@ -80,43 +99,10 @@ pub struct Built {
     pub len: usize,
 }
 
-/// Says whether the site keeps its rules.
-pub fn site_holds(site: &[u8]) -> bool {
-    boundary::site_holds(site) == 1
-}
-
-/// Receives a frame: on success the private payload stands in the output and
-/// a secured frame raises its device's counter. A refusal changes nothing.
-pub fn receive(site: &mut [u8], frame: &[u8], out: &mut [u8]) -> Received {
-    let mut answer = [0; packed::ANSWER_LEN];
-    boundary::receive(site, frame, out, &mut answer);
-    packed::received(&answer)
-}
-
-/// Receives frames, each a length octet and its octets, one after the other,
-/// up to the first that is cut; gives how many were accepted. The site's
-/// rules are checked once; where they are broken nothing is received.
-pub fn receive_many(site: &mut [u8], frames: &[u8], out: &mut [u8]) -> u64 {
-    boundary::receive_many(site, frames, out)
-}
-
 /// The open payload of a frame, a part of it; empty where the frame cannot
 /// be divided.
 pub fn open_payload(frame: &[u8]) -> &[u8] {
     let place = boundary::open_payload(frame);
     let (start, len) = ((place >> 16) as usize, (place & 0xffff) as usize);
     &frame[start..start + len]
-}
-
-/// Builds a frame: on success it stands in the output and a secured frame
-/// raises the own counter. A refusal changes nothing.
-pub fn build(
-    site: &mut [u8],
-    request: &Request,
-    open: &[u8],
-    private: &[u8],
-    out: &mut [u8],
-) -> Built {
-    let answer = boundary::build(site, &packed::request(request), open, private, out);
-    Built { status: answer as u8, len: (answer >> 8) as usize }
 }

@@ -11,9 +11,12 @@ use std::io::{Read, Write};
 use std::process::{Child, ChildStdin, ChildStdout, Command, Stdio};
 
 const PROGRAM: &str = concat!(env!("CARGO_MANIFEST_DIR"), "/../target/bin/answers");
-/// The program's room for an item's parts, and for the output.
+/// The program's room for an item's parts, for the output and for the site.
 const PARTS_LEN: usize = 4096;
 const OUT_LEN: usize = 512;
+const SITE_ROOM: usize = 4096;
+/// The kind of item that loads; its room is the site's.
+const LOAD: u8 = 6;
 
 thread_local! {
     static ASKED: RefCell<Program> = RefCell::new(Program::start());
@@ -44,7 +47,8 @@ impl Program {
 
     fn item(&mut self, kind: u8, room: usize, parts: [&[u8]; 3]) -> &mut Program {
         let parts_len = parts.iter().map(|part| part.len()).sum::<usize>();
-        assert!(room <= OUT_LEN && parts_len <= PARTS_LEN, "more than the program has room for");
+        let most = if kind == LOAD { SITE_ROOM } else { OUT_LEN };
+        assert!(room <= most && parts_len <= PARTS_LEN, "more than the program has room for");
         self.items.push(kind);
         for len in [room, parts[0].len(), parts[1].len(), parts[2].len()] {
             self.items.extend((len as u16).to_le_bytes());
@@ -85,6 +89,17 @@ impl Drop for Program {
         drop(self.input.take());
         let _ = self.child.wait();
     }
+}
+
+/// Lends the site's octets, loads over them, and takes them back.
+pub fn load(file: &[u8], site: &mut [u8]) -> u8 {
+    let mut status = [0];
+    ASKED.with(|asked| {
+        let mut asked = asked.borrow_mut();
+        asked.site(site).item(LOAD, site.len(), [file, &[], &[]]).shown();
+        asked.answers(&mut [&mut [0], &mut status, site]);
+    });
+    status[0]
 }
 
 pub fn site_holds(site: &[u8]) -> u8 {

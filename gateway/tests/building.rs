@@ -2,10 +2,12 @@
 
 mod common;
 
-use common::{buffer, Histogram, Order};
-use second::testkit::{request, request_of, Breakage, RequestBreakage, Rng, SiteSpec};
+use common::{buffer, some_free, Histogram, Order};
+use second::testkit::{any_site, request, request_of};
+use second::testkit::{RequestBreakage, Rng, SiteBreakage, SiteSpec};
 
-/// Random sites, each through a run of requests.
+/// Random sites, half of them with random free octets, each through a run of
+/// requests.
 #[test]
 fn runs_of_requests() {
     let mut rng = Rng::new(201);
@@ -13,7 +15,7 @@ fn runs_of_requests() {
     let mut levels = [[0; 4]; 8];
     for _ in 0..1200 {
         let mut spec = SiteSpec::random(&mut rng);
-        let mut site = spec.encode();
+        let mut site = some_free(&mut rng, &spec);
         for _ in 0..12 {
             let input = request(&mut rng, &spec);
             let len = match rng.chance(97) {
@@ -48,13 +50,13 @@ fn broken_requests() {
                 spec.settings.short = rng.pick(&[0xfffe, 0xffff]);
             }
             let input = breakage.apply(&mut rng, &spec);
-            let order = Order { site: spec.encode(), input, out: buffer(127) };
+            let order = Order { site: spec.site(), input, out: buffer(127) };
             let status = order.agreed(Some(&spec)).answer.status;
             assert_eq!(status, 17, "{}", breakage.name());
             histogram.add(status);
         }
     }
-    for breakage in Breakage::all() {
+    for breakage in [SiteBreakage::all(), SiteBreakage::all()].concat() {
         let spec = SiteSpec::random(&mut rng);
         let input = request(&mut rng, &spec);
         let site = breakage.apply(&mut rng, &spec);
@@ -63,6 +65,19 @@ fn broken_requests() {
         histogram.add(status);
     }
     histogram.check("broken requests", &[(&[17], 500), (&[1], 50)]);
+}
+
+/// Requests on sites of any content and length.
+#[test]
+fn any_sites() {
+    let mut rng = Rng::new(205);
+    let mut histogram = Histogram::default();
+    for _ in 0..3000 {
+        let spec = SiteSpec::random(&mut rng);
+        let (site, input) = (any_site(&mut rng, &spec), request(&mut rng, &spec));
+        histogram.add(Order { site, input, out: buffer(127) }.agreed(None).answer.status);
+    }
+    histogram.check("requests on any site", &[(&[0, 1], 500)]);
 }
 
 /// Private payloads of every length up to 300, and output buffers around 127.
@@ -77,7 +92,7 @@ fn lengths() {
             let mut input = request_of(kind, &mut rng, &spec);
             input.private = rng.octets(len);
             let room = rng.pick(&[0, 126, 127, 127, 127, 128, 300]);
-            let order = Order { site: spec.encode(), input, out: buffer(room) };
+            let order = Order { site: spec.site(), input, out: buffer(room) };
             histogram.add(order.agreed(Some(&spec)).answer.status);
         }
     }
@@ -104,7 +119,7 @@ fn any_request() {
                 6 => asked.destination.pan = spec.settings.pan,
                 _ => asked.destination.address = rng.word(),
             }
-            let order = Order { site: spec.encode(), input, out: buffer(127) };
+            let order = Order { site: spec.site(), input, out: buffer(127) };
             histogram.add(order.agreed(Some(&spec)).answer.status);
         }
     }

@@ -11,7 +11,7 @@ use std::process::Stdio;
 use common::{command, Histogram, LOG};
 use second::log;
 use second::status::NAMES;
-use second::testkit::{hex, log_input, log_of, Breakage, Rng, SiteSpec};
+use second::testkit::{hex, log_input, log_of, FileBreakage, Rng, SiteSpec};
 
 /// What the program writes for an input.
 fn printed(input: &[u8]) -> Vec<u8> {
@@ -49,9 +49,9 @@ fn listing_cut_anywhere() {
     }
 }
 
-/// Sites that are too long, broken or of every size.
+/// Files that are too long, broken or of every size.
 #[test]
-fn sites() {
+fn files() {
     let mut rng = Rng::new(501);
     let good = hex("02 00 6A E4 79");
     check(&log_of(&[0; 3614], &[&[1, 2, 3]]));
@@ -59,9 +59,9 @@ fn sites() {
     check(&log_of(&[], &[&good]));
     check(&[0x1d, 0x0e]);
     check(&[0xff, 0xff, 1]);
-    for breakage in Breakage::all().into_iter().step_by(4) {
-        let site = breakage.apply(&mut rng, &SiteSpec::default());
-        check(&log_of(&site, &[&good[..], &[]]));
+    for breakage in FileBreakage::all().into_iter().step_by(4) {
+        let file = breakage.apply(&mut rng, &SiteSpec::default());
+        check(&log_of(&file, &[&good[..], &[]]));
     }
 }
 

@@ -2,9 +2,9 @@
 
 mod common;
 
-use common::{buffer, Histogram, Reception};
-use second::testkit::{frame, frame_of, run_of, summed, summed_again};
-use second::testkit::{Allowance, Breakage, FrameCase, Rng, SiteSpec};
+use common::{buffer, some_free, Histogram, Reception};
+use second::testkit::{any_site, changed_site, frame, frame_of, run_of};
+use second::testkit::{summed, summed_again, Allowance, FrameCase, Rng, SiteBreakage, SiteSpec};
 
 const REFUSALS: [u8; 14] = [2, 3, 4, 5, 6, 7, 8, 9, 10, 11, 12, 13, 14, 15];
 
@@ -52,15 +52,15 @@ impl Seen {
     }
 }
 
-/// Random sites, each through a run of frames of every kind; frames that were
-/// accepted come again.
+/// Random sites, half of them with random free octets, each through a run of
+/// frames of every kind; frames that were accepted come again.
 #[test]
 fn runs_of_frames() {
     let mut rng = Rng::new(101);
     let (mut histogram, mut seen) = (Histogram::default(), Seen::default());
     for _ in 0..1500 {
         let mut spec = SiteSpec::random(&mut rng);
-        let mut site = spec.encode();
+        let mut site = some_free(&mut rng, &spec);
         let mut sent: Vec<Vec<u8>> = Vec::new();
         for _ in 0..25 {
             let again = !sent.is_empty() && rng.chance(8);
@@ -96,11 +96,17 @@ fn every_case() {
         for _ in 0..400 {
             let spec = SiteSpec::random(&mut rng);
             let frame = frame_of(case, &mut rng, &spec);
-            let reception = Reception { site: spec.encode(), frame, out: buffer(127) };
+            let reception = Reception { site: spec.site(), frame, out: buffer(127) };
             histogram.add(reception.agreed(Some(&spec)).answer.status);
         }
     }
     histogram.check("every case", &[(&[0, 3, 4, 5, 6, 7, 8, 9, 10, 11, 12, 13, 14, 15], 10)]);
+}
+
+/// Both say whether a site keeps its rules, and receive on it.
+fn agreed_on(site: Vec<u8>, frame: &[u8]) -> u8 {
+    assert_eq!(gateway::raw::site_holds(&site), second::site_holds(&site), "{site:02x?}");
+    Reception { site, frame: frame.to_vec(), out: buffer(130) }.agreed(None).answer.status
 }
 
 /// Each breakage of a site rule and each allowance in turn.
@@ -108,55 +114,63 @@ fn every_case() {
 fn damaged_sites() {
     let mut rng = Rng::new(103);
     let mut histogram = Histogram::default();
-    for _ in 0..12 {
+    for _ in 0..24 {
         let spec = SiteSpec::random(&mut rng);
         let frame = frame(&mut rng, &spec).1;
-        for breakage in Breakage::all() {
-            let site = breakage.apply(&mut rng, &spec);
-            assert!(!gateway::site_holds(&site), "{}", breakage.name());
-            let reception = Reception { site, frame: frame.clone(), out: buffer(130) };
-            let status = reception.agreed(None).answer.status;
+        for breakage in SiteBreakage::all() {
+            let status = agreed_on(breakage.apply(&mut rng, &spec), &frame);
             assert_eq!(status, 1, "{}", breakage.name());
             histogram.add(status);
         }
         for allowance in Allowance::all() {
-            let site = allowance.apply(&mut rng, &spec);
-            assert!(gateway::site_holds(&site), "{}", allowance.name());
-            let reception = Reception { site, frame: frame.clone(), out: buffer(130) };
-            histogram.add(reception.agreed(None).answer.status);
+            let status = agreed_on(allowance.apply(&mut rng, &spec).site(), &frame);
+            assert_ne!(status, 1, "{}", allowance.name());
+            histogram.add(status);
         }
     }
     histogram.check("damaged sites", &[(&[1], 500)]);
 }
 
-/// Sites with one octet changed or cut anywhere.
+/// Loaded sites with octets changed anywhere.
 #[test]
 fn changed_sites() {
     let mut rng = Rng::new(104);
-    let (mut held, mut broken) = (0, 0);
+    let mut histogram = Histogram::default();
     for _ in 0..120 {
         let spec = SiteSpec::random(&mut rng);
-        let whole = spec.encode();
         let frame = frame_of(FrameCase::Secured, &mut rng, &spec);
         for _ in 0..60 {
-            let mut site = whole.clone();
-            let at = rng.below(site.len());
-            let at = if rng.chance(40) { at.min(rng.below(80)) } else { at };
-            match rng.chance(10) {
-                true => site.truncate(at),
-                false => site[at] ^= 1 << rng.below(8),
-            }
-            let holds = second::site_holds(&site);
-            assert_eq!(gateway::site_holds(&site), holds, "{site:02x?}");
-            Reception { site, frame: frame.clone(), out: buffer(127) }.agreed(None);
-            match holds {
-                true => held += 1,
-                false => broken += 1,
-            }
+            let site = changed_site(&mut rng, &spec.site());
+            histogram.add(agreed_on(site, &frame));
         }
     }
-    println!("changed sites: {held} hold, {broken} do not");
-    assert!(held > 500 && broken > 500);
+    histogram.check("changed sites", &[(&[0, 1], 500)]);
+}
+
+/// Sites of any content and length.
+#[test]
+fn any_sites() {
+    let mut rng = Rng::new(108);
+    let mut histogram = Histogram::default();
+    for _ in 0..4000 {
+        let spec = SiteSpec::random(&mut rng);
+        let (site, frame) = (any_site(&mut rng, &spec), frame(&mut rng, &spec).1);
+        histogram.add(agreed_on(site, &frame));
+    }
+    histogram.check("frames on any site", &[(&[0, 1], 500)]);
+}
+
+/// Every length of site near the right one, and what it says it has.
+#[test]
+fn site_lengths() {
+    let mut rng = Rng::new(109);
+    let spec = SiteSpec::random(&mut rng);
+    for len in (0..100).chain(3560..3650).chain([4096]) {
+        let mut site = spec.site();
+        site.resize(len, 0);
+        let holds = agreed_on(site, &[]) != 1;
+        assert_eq!(holds, len == gateway::SITE_LEN, "{len} octets");
+    }
 }
 
 /// Every length of frame up to 300 octets, with a right and a wrong FCS, and
@@ -171,7 +185,7 @@ fn lengths() {
             let octets = rng.octets(len);
             let frames = [octets.clone(), summed(&octets[..len.saturating_sub(2)])];
             for frame in frames {
-                let reception = Reception { site: spec.encode(), frame, out: buffer(room) };
+                let reception = Reception { site: spec.site(), frame, out: buffer(room) };
                 histogram.add(reception.agreed(Some(&spec)).answer.status);
             }
         }
@@ -187,7 +201,7 @@ fn flipped_and_cut() {
     for _ in 0..8 {
         let spec = SiteSpec::random(&mut rng);
         let good = frame_of(FrameCase::Secured, &mut rng, &spec);
-        let site = spec.encode();
+        let site = spec.site();
         let mut frames = Vec::new();
         for bit in 0..8 * good.len() {
             let mut frame = good.clone();
@@ -219,7 +233,7 @@ fn many_frames() {
         if rng.chance(20) {
             frames.truncate(rng.below(frames.len()));
         }
-        let mut site = spec.encode();
+        let mut site = spec.site();
         if round % 10 == 0 {
             site[0] = 0;
         }
@@ -234,7 +248,7 @@ fn many_frames() {
             count += u64::from(answer.status == 0);
             rest = &behind[usize::from(len)..];
         }
-        assert_eq!(gateway::receive_many(&mut site, &frames, &mut out), count);
+        assert_eq!(gateway::raw::receive_many(&mut site, &frames, &mut out), count);
         assert_eq!((site, out), (their_site, their_out));
         accepted += count;
     }

@@ -78,7 +78,7 @@ fn pair(rng: &mut Rng, request: &mut Request, command: u8, pans: (u16, u16)) -> 
 
 /// Builds with one, receives with the other, in both ways.
 fn check(pair: &Pair, input: &BuildInput) -> bool {
-    let order = Order { site: pair.sender.encode(), input: input.clone(), out: buffer(127) };
+    let order = Order { site: pair.sender.site(), input: input.clone(), out: buffer(127) };
     order.agreed(Some(&pair.sender));
     let builders: [fn(&Order) -> Outcome<Built>; 2] = [Order::ours, Order::theirs];
     let receivers: [fn(&Reception) -> Outcome<Received>; 2] = [Reception::theirs, Reception::ours];
@@ -90,7 +90,7 @@ fn check(pair: &Pair, input: &BuildInput) -> bool {
         assert_eq!(built.answer.status, 0, "{input:?}");
         let frame = built.out[..built.answer.len].to_vec();
         let reception =
-            Reception { site: pair.receiver.encode(), frame: frame.clone(), out: buffer(127) };
+            Reception { site: pair.receiver.site(), frame: frame.clone(), out: buffer(127) };
         let outcome = receive(&reception);
         let answer = outcome.answer;
         assert_eq!(answer.status, 0, "{input:?} {frame:02x?}");

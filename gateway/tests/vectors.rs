@@ -10,11 +10,11 @@ use second::{Built, Received};
 const KEY: [u8; 16] = [0x3c; 16];
 
 fn received(site: &SiteSpec, frame: Vec<u8>) -> Outcome<Received> {
-    Reception { site: site.encode(), frame, out: buffer(130) }.agreed(Some(site))
+    Reception { site: site.site(), frame, out: buffer(130) }.agreed(Some(site))
 }
 
 fn built(site: &SiteSpec, input: BuildInput) -> Outcome<Built> {
-    Order { site: site.encode(), input, out: buffer(130) }.agreed(Some(site))
+    Order { site: site.site(), input, out: buffer(130) }.agreed(Some(site))
 }
 
 /// Annex C.2, FIPS 197 and SP 800-38A: each frame is accepted with its private
@@ -126,11 +126,4 @@ fn borders_through_frames() {
         let expected = if level == 3 || level == 7 { 0 } else { 10 };
         assert_eq!(received(&site, frame).answer.status, expected);
     }
-}
-
-#[test]
-fn site_sizes() {
-    let smallest = SiteSpec::default().encode();
-    assert_eq!((smallest.len(), gateway::site_holds(&smallest)), (77, true));
-    assert!(!gateway::site_holds(&smallest[..76]) && !gateway::site_holds(&[]));
 }

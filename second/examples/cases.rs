@@ -12,6 +12,7 @@ fn main() {
     fs::write(format!("{folder}/stdin"), &cases.input).expect("the input is written");
     fs::write(format!("{folder}/stdout"), &cases.expected).expect("the answers are written");
     println!("{} octets in, {} out", cases.input.len(), cases.expected.len());
+    println!("items by kind: {:?}, loads by status: {:?}", cases.items, cases.loads);
     for (count, name) in cases.statuses.iter().zip(NAMES) {
         println!("{count:>6} {name}");
     }

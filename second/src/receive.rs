@@ -5,7 +5,7 @@ use crate::ccm;
 use crate::fcs::fcs_holds;
 use crate::filter;
 use crate::frame::{divide, read_header, Address, Header, Parts, ACKNOWLEDGMENT, COMMAND, MAX_LEN};
-use crate::site::{device_counter, device_extended, set_device_counter, site_holds, Site, DEVICES};
+use crate::site::{device_counter, device_extended, set_device_counter, site_holds, Site};
 use crate::status;
 
 /// The answer; a refusal has zeros beside its status.
@@ -153,7 +153,7 @@ fn unsecure(
         return Err(status::IMPROPER_KEY_TYPE);
     }
     let device = site.find_device(key, peer).ok_or(status::UNAVAILABLE_DEVICE)?;
-    let record = site.record(DEVICES, device);
+    let record = site.device(device);
     if security.counter == u32::MAX || security.counter < device_counter(record) {
         return Err(status::COUNTER_ERROR);
     }

@@ -1,14 +1,19 @@
-//! What the crate `shapes` reads and prints: its sites, and each line by this
-//! implementation.
+//! What the crate `shapes` reads and prints: its site files, and each line by
+//! this implementation.
 
+use crate::records::Kind;
+use crate::site::SITE_LEN;
 use crate::testkit::{Device, Handle, Level, Lookup, Settings, SiteSpec, Usage};
-use crate::{build, receive, site_holds, Address, Header, Request};
+use crate::{build, load, receive, status, Address, Header, Request};
 
 const PAN: u16 = 0x4321;
 const SHORT: u16 = 5;
 const EXTENDED: u64 = 0xacde_4800_0000_0001;
 const SOURCE: [u8; 8] = [11, 12, 13, 14, 15, 16, 17, 18];
 const EVERYBODY: Address = Address { mode: 2, pan: 0xffff, address: 0xffff };
+/// The kinds of which there may be more records or fewer.
+const LIMITED: [Kind; 6] =
+    [Kind::Devices, Kind::Levels, Kind::Keys, Kind::Lookups, Kind::Usages, Kind::Handles];
 
 /// The site's own address, in the form of a mode.
 fn own(mode: u8) -> Address {
@@ -64,10 +69,11 @@ fn shapes_site() -> SiteSpec {
     }
 }
 
-/// A site with so many records of each kind but the settings.
+/// The file with so many records of each kind but the settings.
 fn counted(counts: [usize; 6]) -> Vec<u8> {
     let [devices, levels, keys, lookups, usages, handles] = counts;
-    let (last_key, last_device) = (keys.clamp(1, 16) - 1, devices.clamp(1, 64) - 1);
+    let last_key = keys.clamp(1, Kind::Keys.limit()) - 1;
+    let last_device = devices.clamp(1, Kind::Devices.limit()) - 1;
     let device = |number: usize| Device {
         pan: PAN,
         short: number as u16,
@@ -88,19 +94,19 @@ fn counted(counts: [usize; 6]) -> Vec<u8> {
     .encode()
 }
 
-/// The sites with titles: that of the shapes, then those at the limits.
-fn sites() -> Vec<(String, Vec<u8>)> {
-    let full = [64, 16, 16, 64, 64, 256];
-    let names = ["devices", "levels", "keys", "lookups", "usages", "handles"];
+/// The files with titles: that of the shapes, then those at the limits.
+fn files() -> Vec<(String, Vec<u8>)> {
+    let full = LIMITED.map(Kind::limit);
     let mut all = vec![
         ("shapes".to_string(), shapes_site().encode()),
         ("smallest, 77 octets".to_string(), counted([0; 6])),
         ("largest, 3,613 octets".to_string(), counted(full)),
     ];
-    for (kind, name) in names.iter().enumerate() {
+    for (number, kind) in LIMITED.iter().enumerate() {
         let mut over = full;
-        over[kind] += 1;
-        all.push((format!("{} {name}", over[kind]), counted(over)));
+        over[number] += 1;
+        let name = format!("{kind:?}").to_lowercase();
+        all.push((format!("{} {name}", over[number]), counted(over)));
     }
     let cut = counted([0; 6])[..76].to_vec();
     let tail = [counted([0; 6]), vec![0]].concat();
@@ -111,11 +117,11 @@ fn sites() -> Vec<(String, Vec<u8>)> {
 
 /// What the program reads.
 pub fn input() -> Vec<u8> {
-    let item = |(title, site): (String, Vec<u8>)| {
-        let len = u16::try_from(site.len()).expect("a length").to_le_bytes();
-        [format!("{title:24}").as_bytes(), &len, &site].concat()
+    let item = |(title, file): (String, Vec<u8>)| {
+        let len = u16::try_from(file.len()).expect("a length").to_le_bytes();
+        [format!("{title:24}").as_bytes(), &len, &file].concat()
     };
-    sites().into_iter().flat_map(item).collect()
+    files().into_iter().flat_map(item).collect()
 }
 
 fn same(equal: bool) -> &'static str {
@@ -167,7 +173,7 @@ fn round(request: &Request, count: u8) -> String {
         _ => &[],
     };
     let private: Vec<u8> = (0..count).collect();
-    let (mut site, mut frame, mut out) = (shapes_site().encode(), [0; 127], [0; 127]);
+    let (mut site, mut frame, mut out) = (shapes_site().site(), [0; 127], [0; 127]);
     let built = build(&mut site, request, open, &private, &mut frame);
     if built.status != 0 {
         return format!("{} {} ", built.status, built.len);
@@ -192,8 +198,8 @@ fn round(request: &Request, count: u8) -> String {
 
 /// What the program prints.
 pub fn output() -> String {
-    let sites = sites();
-    let mut text = format!("{:24}\n", sites[0].0);
+    let files = files();
+    let mut text = format!("{:24}\n", files[0].0);
     for n in 0..1536 {
         let (kind, level, keymode) = (n / 384, n / 48 % 8, n / 12 % 4);
         let (to, from) = (n / 3 % 4, n % 3);
@@ -207,8 +213,9 @@ pub fn output() -> String {
     }
     let extremes =
         [("no octets".to_string(), vec![]), ("100,000 zeros".to_string(), vec![0; 100000])];
-    for (title, site) in sites[1..].iter().chain(&extremes) {
-        let verdict = if site_holds(site) { "holds" } else { "refused" };
+    for (title, file) in files[1..].iter().chain(&extremes) {
+        let loaded = load(file, &mut [0; SITE_LEN]) == status::SUCCESS;
+        let verdict = if loaded { "holds" } else { "refused" };
         text += &format!("{title:24}{verdict}\n");
     }
     text

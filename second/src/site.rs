@@ -1,124 +1,88 @@
-//! The site file: its rules, its tables and the searches in them.
-
-use std::slice::ChunksExact;
+//! The site: its places, its rules and the searches in its tables.
+//!
+//! A site has the counts of its records in front, 2 octets for each kind, and
+//! then a region for each kind with room for as many records as there may be.
+//! The records stand at the front of their region. All other octets are free:
+//! they are neither read nor changed.
 
 use crate::frame::{keysource_len, Address, Security, COMMAND, EXTENDED, NONE, SHORT};
 use crate::octets::{number, u16_at, u32_at, u64_at};
+use crate::records::{room_of, Kind, Records, KINDS, NO_SHORT};
 
-pub const SETTINGS: usize = 1;
-pub const DEVICES: usize = 2;
-pub const LEVELS: usize = 3;
-pub const KEYS: usize = 4;
-pub const LOOKUPS: usize = 5;
-pub const USAGES: usize = 6;
-pub const HANDLES: usize = 7;
+/// The octets of a count.
+const COUNT_LEN: usize = 2;
+/// The octets before the first region.
+pub const HEADER_LEN: usize = 32;
+/// The octets of a site.
+pub const SITE_LEN: usize = HEADER_LEN + room_of(KINDS);
+/// Where the counters stand in the settings and in a device record.
+const OWN_COUNTER: usize = 31;
+const DEVICE_COUNTER: usize = 12;
+/// Where the own counter stands in a site.
+pub const COUNTER_AT: usize = region_at(Kind::Settings) + OWN_COUNTER;
 
-/// The record lengths of kinds 1 to 7.
-pub const RECORD_LEN: [usize; 7] = [35, 17, 5, 16, 22, 3, 2];
-/// The largest counts of kinds 1 to 7; the smallest are 0, for settings 1.
-pub const MAX_COUNT: [usize; 7] = [1, 64, 16, 16, 64, 64, 256];
-/// The octets of the table of contents.
-pub const CONTENTS_LEN: usize = 42;
-/// The octets of the largest site.
-pub const MAX_SITE: usize = 3613;
+/// Where the count of a kind stands.
+pub const fn count_at(kind: Kind) -> usize {
+    COUNT_LEN * kind as usize
+}
 
-/// Where the own counter stands in the site.
-const COUNTER_AT: usize = CONTENTS_LEN + 31;
-/// Where the counter stands in a device record.
-const DEVICE_COUNTER_AT: usize = 12;
-/// Short addresses from here on name nobody.
-const NO_SHORT: u16 = 0xfffe;
+/// Where the region of a kind starts.
+pub const fn region_at(kind: Kind) -> usize {
+    HEADER_LEN + room_of(kind as usize)
+}
+
+/// Where the counter of the device with this number, from 0, stands in a site.
+pub const fn device_counter_at(device: usize) -> usize {
+    region_at(Kind::Devices) + device * Kind::Devices.record_len() + DEVICE_COUNTER
+}
 
 /// Says whether the site keeps every site rule.
 pub fn site_holds(site: &[u8]) -> bool {
-    if !contents_hold(site) {
-        return false;
-    }
-    let site = Site::new(site);
-    let (keys, devices) = (site.records(KEYS).len(), site.records(DEVICES).len());
-    site.settings()[30] <= 3
-        && devices_hold(&site)
-        && site.records(LEVELS).all(|level| level[0] <= 3 && level[2] <= 7 && level[3] <= 1)
-        && site.records(LOOKUPS).all(|lookup| lookup_holds(lookup, keys))
-        && site.records(USAGES).all(|usage| usize::from(usage[0]) < keys && usage[1] <= 3)
-        && site
-            .records(HANDLES)
-            .all(|handle| usize::from(handle[0]) < keys && usize::from(handle[1]) < devices)
+    let counts_hold = || Kind::ALL.into_iter().all(|kind| kind.admits(count(site, kind)));
+    site.len() == SITE_LEN && counts_hold() && site_records(site).hold()
 }
 
-/// Says whether the table of contents fits itself and the length.
-fn contents_hold(site: &[u8]) -> bool {
-    if site.len() < CONTENTS_LEN {
-        return false;
-    }
-    let mut offset = CONTENTS_LEN;
-    for (index, entry) in site[..CONTENTS_LEN].chunks_exact(6).enumerate() {
-        let count = usize::from(u16_at(entry, 2));
-        let holds = usize::from(entry[0]) == index + 1
-            && usize::from(entry[1]) == RECORD_LEN[index]
-            && count <= MAX_COUNT[index]
-            && (index > 0 || count == 1)
-            && usize::from(u16_at(entry, 4)) == offset;
-        if !holds {
-            return false;
-        }
-        offset += count * RECORD_LEN[index];
-    }
-    offset == site.len()
+/// How many records of a kind the site says it has.
+fn count(site: &[u8], kind: Kind) -> usize {
+    u16_at(site, count_at(kind)).into()
 }
 
-/// Says whether the exempt fields hold and no two devices share an address.
-fn devices_hold(site: &Site) -> bool {
-    let mut rest = site.records(DEVICES);
-    while let Some(device) = rest.next() {
-        if device[16] > 1 || rest.clone().any(|other| share_address(device, other)) {
-            return false;
-        }
+/// The records of a site whose length and counts hold.
+fn site_records(site: &[u8]) -> Records<'_> {
+    let octets = |kind: Kind| &site[region_at(kind)..][..count(site, kind) * kind.record_len()];
+    Records::new(Kind::ALL.map(octets))
+}
+
+/// Writes the site of these records, zeros in its free octets; they keep the
+/// limits, and the octets are a site's.
+pub fn write_site(records: &Records, site: &mut [u8]) {
+    site.fill(0);
+    for kind in Kind::ALL {
+        let (count, octets) = (records.count(kind) as u16, records.octets(kind));
+        site[count_at(kind)..][..COUNT_LEN].copy_from_slice(&count.to_le_bytes());
+        site[region_at(kind)..][..octets.len()].copy_from_slice(octets);
     }
-    true
-}
-
-/// Says whether two device records share an address.
-fn share_address(one: &[u8], other: &[u8]) -> bool {
-    one[4..12] == other[4..12] || one[..4] == other[..4] && u16_at(one, 2) < NO_SHORT
-}
-
-/// Says whether a lookup record keeps its rules.
-fn lookup_holds(lookup: &[u8], keys: usize) -> bool {
-    usize::from(lookup[0]) < keys
-        && lookup[1] <= 3
-        && (lookup[1] > 0 || matches!(lookup[11], 2 | 3))
 }
 
 /// A site that keeps its rules.
 #[derive(Clone, Copy)]
 pub struct Site<'a> {
-    octets: &'a [u8],
+    records: Records<'a>,
 }
 
 impl<'a> Site<'a> {
     /// Lends a site; the rules must hold.
     pub fn new(octets: &'a [u8]) -> Self {
-        Site { octets }
-    }
-
-    /// The records of a kind in file order.
-    pub fn records(&self, kind: usize) -> ChunksExact<'a, u8> {
-        let entry = &self.octets[6 * (kind - 1)..6 * kind];
-        let (count, offset) = (usize::from(u16_at(entry, 2)), usize::from(u16_at(entry, 4)));
-        let len = RECORD_LEN[kind - 1];
-        self.octets[offset..offset + count * len].chunks_exact(len)
-    }
-
-    /// The record of a kind with this number, from 0.
-    pub fn record(&self, kind: usize, number: usize) -> &'a [u8] {
-        let offset = usize::from(u16_at(self.octets, 6 * (kind - 1) + 4));
-        let len = RECORD_LEN[kind - 1];
-        &self.octets[offset + number * len..][..len]
+        Site { records: site_records(octets) }
     }
 
     fn settings(&self) -> &'a [u8] {
-        &self.octets[CONTENTS_LEN..CONTENTS_LEN + RECORD_LEN[0]]
+        self.records.one(Kind::Settings, 0)
+    }
+
+    /// The record of the device with this number, from 0.
+    pub fn device(&self, number: usize) -> &'a [u8] {
+        self.records.one(Kind::Devices, number)
     }
 
     pub fn pan(&self) -> u16 {
@@ -149,7 +113,7 @@ impl<'a> Site<'a> {
 
     /// The own counter.
     pub fn counter(&self) -> u32 {
-        u32_at(self.octets, COUNTER_AT)
+        u32_at(self.settings(), OWN_COUNTER)
     }
 
     /// The peer: the given address or, where absent, the coordinator; nothing
@@ -170,7 +134,7 @@ impl<'a> Site<'a> {
 
     /// The first level record for a type and command.
     pub fn level(&self, kind: u8, command: u8) -> Option<&'a [u8]> {
-        self.records(LEVELS).find(|level| names_type(level, kind, command))
+        self.records.all(Kind::Levels).find(|level| names_type(level, kind, command))
     }
 
     /// The number of the key of the first lookup record that matches.
@@ -184,7 +148,8 @@ impl<'a> Site<'a> {
             0 => peer.is_some_and(|peer| names_peer(lookup, peer)),
             _ => lookup[2] == security.keyindex && lookup[3..11].starts_with(source),
         };
-        self.records(LOOKUPS)
+        self.records
+            .all(Kind::Lookups)
             .filter(|lookup| lookup[1] == keymode)
             .find(matches)
             .map(|lookup| usize::from(lookup[0]))
@@ -193,29 +158,31 @@ impl<'a> Site<'a> {
     /// The octets of a key.
     pub fn key(&self, number: usize) -> [u8; 16] {
         let mut key = [0; 16];
-        key.copy_from_slice(self.record(KEYS, number));
+        key.copy_from_slice(self.records.one(Kind::Keys, number));
         key
     }
 
     /// Says whether a key may be used for a type and command.
     pub fn usage_holds(&self, key: usize, kind: u8, command: u8) -> bool {
-        self.records(USAGES)
+        self.records
+            .all(Kind::Usages)
             .any(|usage| usize::from(usage[0]) == key && names_type(&usage[1..], kind, command))
     }
 
     /// The number, from 0, of the first of the key's devices that is the peer.
     pub fn find_device(&self, key: usize, peer: Option<&Address>) -> Option<usize> {
         let peer = peer?;
-        self.records(HANDLES)
+        self.records
+            .all(Kind::Handles)
             .filter(|handle| usize::from(handle[0]) == key)
             .map(|handle| usize::from(handle[1]))
-            .find(|&device| is_peer(self.record(DEVICES, device), peer))
+            .find(|&device| is_peer(self.device(device), peer))
     }
 
     /// The first device of all that is the peer.
     pub fn find_any_device(&self, peer: Option<&Address>) -> Option<&'a [u8]> {
         let peer = peer?;
-        self.records(DEVICES).find(|device| is_peer(device, peer))
+        self.records.all(Kind::Devices).find(|device| is_peer(device, peer))
     }
 }
 
@@ -248,17 +215,19 @@ pub fn device_extended(device: &[u8]) -> u64 {
 
 /// The counter in a device record.
 pub fn device_counter(device: &[u8]) -> u32 {
-    u32_at(device, DEVICE_COUNTER_AT)
+    u32_at(device, DEVICE_COUNTER)
 }
 
 /// Sets the counter of the device with this number, from 0.
 pub fn set_device_counter(site: &mut [u8], device: usize, counter: u32) {
-    let offset = usize::from(u16_at(site, 6 * (DEVICES - 1) + 4));
-    let at = offset + device * RECORD_LEN[DEVICES - 1] + DEVICE_COUNTER_AT;
-    site[at..at + 4].copy_from_slice(&counter.to_le_bytes());
+    set_number(site, device_counter_at(device), counter);
 }
 
 /// Sets the own counter.
 pub fn set_counter(site: &mut [u8], counter: u32) {
-    site[COUNTER_AT..COUNTER_AT + 4].copy_from_slice(&counter.to_le_bytes());
+    set_number(site, COUNTER_AT, counter);
+}
+
+fn set_number(site: &mut [u8], at: usize, value: u32) {
+    site[at..at + 4].copy_from_slice(&value.to_le_bytes());
 }

@@ -2,9 +2,14 @@
 //! at random from a seed.
 //!
 //! - `Rng`: the generator; the same seed draws the same things.
-//! - `SiteSpec`: a site as records; `encode` gives its octets.
-//! - `Breakage`, `Allowance`: each way to break a site rule, and what looks
-//!   broken and is not.
+//! - `SiteSpec`: a site as records; `encode` gives its file, `site` what
+//!   loading makes of it.
+//! - `FileBreakage`, `SiteBreakage`, `RecordBreakage`, `Allowance`: each way to
+//!   break a rule of the file, of the site and of the records in both, and what
+//!   looks broken and is not.
+//! - `any_file`, `any_site`, `any_buffer`: files, sites and buffers of any
+//!   content; `changed_site`, `scribbled`, `free_octets`: sites changed
+//!   anywhere, and in their free octets alone.
 //! - `Plan`: a frame as fields; `bare` and `seal` give its octets.
 //! - `FrameCase`, `frame`: random frames that fit a site, good and damaged.
 //! - `BuildInput`, `RequestBreakage`, `request`: random build requests.
@@ -20,15 +25,18 @@
 mod answers;
 mod damage;
 mod frames;
+mod kept;
+mod lent;
 mod requests;
 mod rng;
 mod sites;
 mod vectors;
 
 pub use answers::Cases;
-pub use damage::{Allowance, Breakage};
+pub use damage::{Allowance, FileBreakage, RecordBreakage, SiteBreakage};
 pub use frames::{frame, frame_of, log_input, log_of, open_payload, run_of};
 pub use frames::{summed, summed_again, FrameCase, Plan};
+pub use lent::{any_buffer, any_file, any_site, changed_site, free_octets, scribbled, LENT_MOST};
 pub use requests::{request, request_of, BuildInput, RequestBreakage};
 pub use rng::Rng;
 pub use sites::{Device, Handle, Level, Lookup, Settings, SiteSpec, Usage};

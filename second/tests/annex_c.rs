@@ -3,6 +3,7 @@
 
 use second::aes::Aes;
 use second::ccm::{nonce, seal, unseal};
+use second::site::{device_counter_at, COUNTER_AT};
 use second::testkit::{hex, known_frames, known_requests, summed_again, KnownFrame};
 use second::testkit::{ANNEX_KEY, ONE, TWO};
 use second::{build, receive, site_holds, Address, Built, Header, Received};
@@ -133,10 +134,10 @@ fn known(title: &str) -> KnownFrame {
 /// of the output may change.
 fn check_received(title: &str, expected: Received) {
     let KnownFrame { site, frame, private, .. } = known(title);
-    let mut site = site.encode();
+    let mut site = site.site();
     assert!(site_holds(&site));
     let mut after = site.clone();
-    let counter_at = 77 + 17 + 12;
+    let counter_at = device_counter_at(1);
     assert_eq!(after[counter_at..counter_at + 4], [5, 0, 0, 0]);
     after[counter_at] = 6;
     let mut out = [0xee; 130];
@@ -219,7 +220,7 @@ fn c_2_plain_frames_received() {
     let frames = [("C.2.1", 13, 4), ("C.2.2", 21, 0), ("C.2.3", 23, 1)];
     for (clause, start, len) in frames {
         let known = known(&format!("Annex {clause}, unsecured"));
-        let (mut site, mut out) = (known.site.encode(), [0xee; 127]);
+        let (mut site, mut out) = (known.site.site(), [0xee; 127]);
         let before = site.clone();
         let received = receive(&mut site, &known.frame, &mut out);
         assert_eq!((received.status, received.start, received.len), (0, start, len));
@@ -236,7 +237,7 @@ fn c_2_flipped_bits_refused() {
     for title in ["Annex C.2.1, beacon", "Annex C.2.3, command"] {
         let mut known = known(title);
         known.site.levels.iter_mut().for_each(|level| level.minimum = 1);
-        let before = known.site.encode();
+        let before = known.site.site();
         for bit in 0..8 * (known.frame.len() - 2) {
             let mut frame = known.frame.clone();
             frame[bit / 8] ^= 1 << (bit % 8);
@@ -256,10 +257,10 @@ fn c_2_frames_built() {
     let all = known_requests();
     assert_eq!(all.len(), 6);
     for known in all {
-        let (mut site, mut out) = (known.site.encode(), [0xee; 127]);
+        let (mut site, mut out) = (known.site.site(), [0xee; 127]);
         let (mut after, len) = (site.clone(), known.frame.len());
         if known.input.request.level > 0 {
-            after[42 + 31] = 6;
+            after[COUNTER_AT] = 6;
         }
         let (open, private) = (&known.input.open, &known.input.private);
         let built = build(&mut site, &known.input.request, open, private, &mut out);

@@ -13,8 +13,9 @@ fn file(name: &str) -> Vec<u8> {
 #[test]
 fn kept_cases() {
     let cases = Cases::kept();
-    println!("{:?}", cases.statuses);
+    println!("{:?} {:?} {:?}", cases.items, cases.loads, cases.statuses);
     assert!(cases.statuses.iter().all(|count| *count >= 20));
+    assert!(cases.loads.iter().all(|count| *count >= 20));
     assert!(cases.input == file("stdin"), "stdin is made by the example `cases`");
     assert!(cases.expected == file("stdout"), "stdout is made by the example `cases`");
 }

@@ -2,10 +2,11 @@
 
 use second::fcs::{fcs, fcs_holds};
 use second::frame::{open_len, read_header, security_len, tag_len};
+use second::octets::u32_at;
 use second::receive::at_least;
-use second::testkit::{hex, probe_frame, probe_request, probed, summed_again};
-use second::testkit::{Allowance, Breakage, Rng, SiteSpec};
-use second::{build, receive, site_holds, Address, Built, Received, Request};
+use second::site::{device_counter_at, COUNTER_AT};
+use second::testkit::{hex, probe_frame, probe_request, probed, summed_again, Rng};
+use second::{build, receive, Address, Built, Received, Request};
 
 const KEY: [u8; 16] = [0x3c; 16];
 
@@ -80,12 +81,12 @@ fn counted(site: &mut [u8], counter: u32) -> (u8, u32) {
     let mut out = [0; 127];
     let status = receive(site, &frame, &mut out).status;
     assert_eq!(&out[..7] == b"reading", status == 0);
-    (status, u32::from_le_bytes(site[77 + 12..77 + 16].try_into().unwrap()))
+    (status, u32_at(site, device_counter_at(0)))
 }
 
 #[test]
 fn counter_at_5() {
-    let mut site = probed(5, KEY).encode();
+    let mut site = probed(5, KEY).site();
     assert_eq!(counted(&mut site, 4), (14, 5));
     assert_eq!(counted(&mut site, 5), (0, 6));
     assert_eq!(counted(&mut site, 5), (14, 6));
@@ -94,7 +95,7 @@ fn counter_at_5() {
 
 #[test]
 fn counter_at_the_end() {
-    let mut site = probed(5, KEY).encode();
+    let mut site = probed(5, KEY).site();
     assert_eq!(counted(&mut site, 0xffff_ffff), (14, 5));
     assert_eq!(counted(&mut site, 0xffff_fffe), (0, 0xffff_ffff));
     for counter in [0, 5, 0xffff_fffe, 0xffff_ffff] {
@@ -104,7 +105,7 @@ fn counter_at_the_end() {
 
 #[test]
 fn wrong_tag_keeps_the_counter() {
-    let mut site = probed(5, KEY).encode();
+    let mut site = probed(5, KEY).site();
     let before = site.clone();
     for level in [1, 2, 3, 5, 6, 7] {
         let mut frame = probe_frame(9, level, &KEY, b"reading");
@@ -121,9 +122,9 @@ fn wrong_tag_keeps_the_counter() {
 fn own_counter() {
     let request = probe_request(6);
     let mut out = [0; 127];
-    let mut site = probed(0xffff_fffe, KEY).encode();
+    let mut site = probed(0xffff_fffe, KEY).site();
     assert_eq!(build(&mut site, &request, &[], &[], &mut out).status, 0);
-    assert_eq!(site[73..77], [0xff; 4]);
+    assert_eq!(site[COUNTER_AT..COUNTER_AT + 4], [0xff; 4]);
     assert_eq!(out[10..14], [0xfe, 0xff, 0xff, 0xff]);
     let before = site.clone();
     assert_eq!(build(&mut site, &request, &[], &[], &mut out), Built { status: 14, len: 0 });
@@ -135,10 +136,10 @@ fn own_counter() {
 #[test]
 fn header_9_mode_1_level_6_has_room_for_102() {
     let request = probe_request(6);
-    let (mut site, mut out) = (probed(5, KEY).encode(), [0xee; 127]);
+    let (mut site, mut out) = (probed(5, KEY).site(), [0xee; 127]);
     let built = build(&mut site, &request, &[], &[7; 103], &mut out);
     assert_eq!((built, out), (Built { status: 16, len: 0 }, [0xee; 127]));
-    assert_eq!(site, probed(5, KEY).encode());
+    assert_eq!(site, probed(5, KEY).site());
     let built = build(&mut site, &request, &[], &[7; 102], &mut out);
     assert_eq!(built, Built { status: 0, len: 127 });
     assert_eq!(out[9], 0x0e);
@@ -146,7 +147,7 @@ fn header_9_mode_1_level_6_has_room_for_102() {
 
 #[test]
 fn longest_frame_received() {
-    let (mut site, mut out) = (probed(5, KEY).encode(), [0xee; 127]);
+    let (mut site, mut out) = (probed(5, KEY).site(), [0xee; 127]);
     let frame = probe_frame(5, 6, &KEY, &[7; 102]);
     assert_eq!(frame.len(), 127);
     let received = receive(&mut site, &frame, &mut out);
@@ -156,7 +157,7 @@ fn longest_frame_received() {
 
 #[test]
 fn room_and_length() {
-    let (mut site, frame) = (probed(5, KEY).encode(), hex("02 00 6A E4 79"));
+    let (mut site, frame) = (probed(5, KEY).site(), hex("02 00 6A E4 79"));
     assert_eq!(receive(&mut site, &frame, &mut [0; 126]).status, 2);
     assert_eq!(receive(&mut site, &frame, &mut [0; 127]).status, 0);
     assert_eq!(receive(&mut site, &frame[..4], &mut [0; 127]).status, 3);
@@ -166,17 +167,4 @@ fn room_and_length() {
     let request = Request::default();
     assert_eq!(build(&mut site, &request, &[], &[], &mut [0; 126]).status, 2);
     assert_eq!(build(&mut [], &request, &[], &[], &mut []).status, 1);
-}
-
-#[test]
-fn site_sizes() {
-    let mut rng = Rng::new(2);
-    let smallest = SiteSpec::default().encode();
-    assert_eq!((smallest.len(), site_holds(&smallest)), (77, true));
-    let spec = SiteSpec::random(&mut rng);
-    let largest = Allowance::Largest.apply(&mut rng, &spec);
-    assert_eq!((largest.len(), site_holds(&largest)), (3613, true));
-    for kind in 1..=7 {
-        assert!(!site_holds(&Breakage::CountOver(kind).apply(&mut rng, &spec)), "kind {kind}");
-    }
 }

@@ -1,5 +1,6 @@
 //! Building: each status, the order of checks, and the way back.
 
+use second::site::COUNTER_AT;
 use second::testkit::{hex, request, Device, Handle, Level, Lookup, RequestBreakage, Rng};
 use second::testkit::{BuildInput, Settings, SiteSpec, Usage};
 use second::{build, receive, site_holds, Address, Built, Request};
@@ -51,14 +52,15 @@ fn data() -> Request {
 
 /// Builds and checks that nothing but the frame and the counter changes.
 fn built(spec: &SiteSpec, input: &BuildInput) -> (u8, Vec<u8>) {
-    let mut site = spec.encode();
+    let mut site = spec.site();
     assert!(site_holds(&site));
     let (mut after, mut out) = (site.clone(), [0xee; 140]);
     let BuildInput { request, open, private } = input;
     let Built { status, len } = build(&mut site, request, open, private, &mut out);
     assert_eq!(status == 0, len > 0);
     if status == 0 && request.level > 0 {
-        after[73..77].copy_from_slice(&(spec.settings.counter + 1).to_le_bytes());
+        after[COUNTER_AT..COUNTER_AT + 4]
+            .copy_from_slice(&(spec.settings.counter + 1).to_le_bytes());
     }
     assert_eq!(site, after);
     assert!(out[len..].iter().all(|octet| *octet == 0xee));
@@ -273,7 +275,7 @@ fn random_requests_and_the_way_back() {
 fn hears(spec: &SiteSpec, input: &BuildInput, frame: &[u8], key: u8) -> bool {
     let request = &input.request;
     let listener = listener(spec, input, key);
-    let (mut site, mut out) = (listener.encode(), [0; 127]);
+    let (mut site, mut out) = (listener.site(), [0; 127]);
     let answer = receive(&mut site, frame, &mut out);
     if answer.status == 15 {
         return false;

@@ -1,7 +1,7 @@
 //! The log program.
 
 use second::status::NAMES;
-use second::testkit::{hex, log_input, log_of, Breakage, Rng, SiteSpec};
+use second::testkit::{hex, log_input, log_of, FileBreakage, Rng, SiteSpec};
 use second::{log, receive};
 
 fn printed(input: &[u8]) -> String {
@@ -37,7 +37,7 @@ fn cut_anywhere() {
 }
 
 #[test]
-fn site_too_long() {
+fn file_too_long() {
     let expected = "frame status octets\nSITE\n";
     assert_eq!(printed(&log_of(&[0; 3614], &[&[1, 2, 3]])), expected);
     assert_eq!(printed(&[0x1e, 0x0e]), expected);
@@ -46,15 +46,15 @@ fn site_too_long() {
 }
 
 #[test]
-fn broken_site() {
+fn broken_file() {
     let good = hex("02 00 6A E4 79");
     let expected = "frame status octets\n1 SITE 0\n2 SITE 0\n";
     assert_eq!(printed(&log_of(&[0; 3613], &[&good[..], &[]])), expected);
     assert_eq!(printed(&log_of(&[], &[&good[..], &[]])), expected);
     let mut rng = Rng::new(21);
-    for breakage in Breakage::all() {
-        let site = breakage.apply(&mut rng, &SiteSpec::default());
-        assert_eq!(printed(&log_of(&site, &[&good[..], &[]])), expected, "{}", breakage.name());
+    for breakage in FileBreakage::all() {
+        let file = breakage.apply(&mut rng, &SiteSpec::default());
+        assert_eq!(printed(&log_of(&file, &[&good[..], &[]])), expected, "{}", breakage.name());
     }
 }
 
@@ -73,8 +73,8 @@ fn log_is_receiving() {
     for _ in 0..300 {
         let spec = SiteSpec::random(&mut rng);
         let input = log_input(&mut rng, &spec, 20);
-        let mut site = spec.encode();
-        let mut rest = input.get(2 + site.len()..).unwrap_or(&[]);
+        let (mut site, file_len) = (spec.site(), spec.encode().len());
+        let mut rest = input.get(2 + file_len..).unwrap_or(&[]);
         let (mut out, mut number) = ([0; 127], 0);
         let mut expected = String::from("frame status octets\n");
         while !rest.is_empty() && rest.len() > usize::from(rest[0]) {
@@ -85,7 +85,7 @@ fn log_is_receiving() {
             expected += &format!("{number} {name} {}\n", received.private);
             rest = behind;
         }
-        if !rest.is_empty() || input.len() < 2 + site.len() {
+        if !rest.is_empty() || input.len() < 2 + file_len {
             expected.push_str("CUT\n");
         }
         assert_eq!(printed(&input), expected);

@@ -1,5 +1,6 @@
 //! Receiving: each status, the order of checks, and what may change.
 
+use second::site::device_counter_at;
 use second::testkit::{frame, frame_of, Device, FrameCase, Handle, Level, Lookup, Plan, Rng};
 use second::testkit::{Settings, SiteSpec, Usage};
 use second::{receive, receive_valid, site_holds, Address, Header, Received};
@@ -91,7 +92,7 @@ fn plain() -> Plan {
 /// Receives and checks that a refusal changes nothing and a success only
 /// what it must.
 fn received(spec: &SiteSpec, frame: &[u8]) -> Received {
-    let mut site = spec.encode();
+    let mut site = spec.site();
     assert!(site_holds(&site));
     let (before, mut out) = (site.clone(), [0xee; 140]);
     let answer = receive(&mut site, frame, &mut out);
@@ -100,7 +101,7 @@ fn received(spec: &SiteSpec, frame: &[u8]) -> Received {
         assert_eq!(answer, Received { status: answer.status, ..Received::default() });
     }
     if answer.device > 0 {
-        let at = 77 + 17 * (answer.device - 1) + 12;
+        let at = device_counter_at(answer.device - 1);
         let counter = answer.start - [0, 1, 5, 9][usize::from(answer.keymode)] - 4;
         let counter = u32::from_le_bytes(frame[counter..counter + 4].try_into().unwrap());
         after[at..at + 4].copy_from_slice(&(counter + 1).to_le_bytes());
@@ -533,7 +534,7 @@ fn random_frames() {
     let (mut seen, mut secured) = ([0; 18], 0);
     for _ in 0..1500 {
         let mut spec = SiteSpec::random(&mut rng);
-        let mut site = spec.encode();
+        let mut site = spec.site();
         for _ in 0..20 {
             spec.refresh(&site);
             let octets = frame(&mut rng, &spec).1;

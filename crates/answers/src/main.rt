@@ -40,6 +40,12 @@ fn read_item() -> Next {
     })
 }
 
+// The status of loading a file into a site, in one octet.
+fn tell_loaded(file: &[u8], site: &mut [u8]) {
+    let status = [export::wirdhalef_load(file, site)];
+    io::write_all(STDOUT_FILENO, &status);
+}
+
 // Whether a site keeps its rules, in one octet.
 fn tell_site(site: &[u8]) {
     let holds = [export::wirdhalef_site_holds(site)];
@@ -125,6 +131,18 @@ fn answer(
     io::write_all(STDOUT_FILENO, site);
 }
 
+// Loads a file into the first octets of the site's buffer, as they stand; gives their number, or 4097 where the buffer has fewer.
+fn load_into(file: &[u8], site: &mut [u8], room: usize) -> usize
+    requires { ⌜ 4096 ≤ length (now site) ⌝ }
+    ensures { λ r. ⌜ r ≤ 4097 ⌝ }
+{
+    if 4096 < room {
+        return 4097;
+    }
+    tell_loaded(file, &mut site[..room]);
+    room
+}
+
 // Reads the parts of a case and answers it; gives the length of the site afterwards, or 4097 where the input ends or asks too much.
 fn turn(item: Item, site: &mut [u8], len: usize, parts: &mut [u8], out: &mut [u8]) -> usize
     requires { ⌜ (len ≤ 4096) × (4096 ≤ length (now site)) × (4096 ≤ length (now parts)) × (512 ≤ length (now out)) ⌝ }
@@ -135,9 +153,6 @@ fn turn(item: Item, site: &mut [u8], len: usize, parts: &mut [u8], out: &mut [u8
     let first = wide(item.first);
     let second = first + wide(item.second);
     let third = second + wide(item.third);
-    if 512 < room {
-        return 4097;
-    }
     if 4096 < third {
         return 4097;
     }
@@ -148,6 +163,12 @@ fn turn(item: Item, site: &mut [u8], len: usize, parts: &mut [u8], out: &mut [u8
         octets::copy_in(site, 0, &parts[..third]);
         tell_site(&site[..third]);
         return third;
+    }
+    if kind == 6 {
+        return load_into(&parts[..first], site, room);
+    }
+    if 512 < room {
+        return 4097;
     }
     answer(
         kind,

@@ -7,7 +7,7 @@ use lib.ListN.{length, drop}
 use borrow.Author.Tests.{eq-eqb, ne-eqb}
 use Rattle.meaning.specs.Octets.{part}
 use Rattle.meaning.specs.Frame.{keySourceLen}
-use Rattle.meaning.specs.Site.{defaultKeySource}
+use Rattle.meaning.specs.Records.{defaultKeySource}
 use Rattle.meaning.specs.Steps.{peerOf, keySource, keyRow, keyOf}
 use Rattle.meaning.specs.Build.{fitted}
 use Rattle.meaning.specs.declared.Found.{Found}

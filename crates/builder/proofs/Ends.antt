@@ -9,7 +9,8 @@ use lib.Dec.{eqb, ltb, leb}
 use borrow.Author.Tests.{leb-true, ltb-false, eqb-true, eqb-false}
 use Rattle.meaning.specs.Octets.{pick, leAt, beside}
 use Rattle.meaning.specs.Status.{number}
-use Rattle.meaning.specs.Site.{records, widthOf, countOf, placeOf, body, extendedAddress, securityOn, ownCounter, siteRule, settingsOf, tablesOf, storeOf, keyAt}
+use Rattle.meaning.specs.Records.{ownAt, keys, lookups, settings, records, widthOf, extendedAddress, securityOn, ownCounter, keyAt}
+use Rattle.meaning.specs.Site.{countOf, placeOf, body, siteRule, settingsOf, tablesOf, storeOf}
 use Rattle.meaning.specs.Steps.{peerOf, keyRow, keyOf}
 use Rattle.meaning.specs.Cipher.{cipher}
 use Rattle.meaning.specs.Ccm.{nonceOf, sealed}
@@ -24,7 +25,7 @@ use Rattle.meaning.proofs.Lists.{and-both}
 use Rattle.meaning.proofs.Scan.{pick-all}
 use Rattle.meaning.proofs.Stores.{sets-beside}
 use Rattle.meaning.proofs.Numbers.{leAt-take, leAt-drop, leAt-lt}
-use Rattle.meaning.proofs.Sites.{rule-one, rule-lookups, length-body}
+use Rattle.meaning.proofs.Sites.{rule-one, rule-lookups}
 use Rattle.meaning.proofs.Rows.{key-below}
 use Rattle.builder.specs.declared.decision.Decision.{Decision}
 use Rattle.builder.specs.declared.decision.Decision.the-variants.{Refused, Plain, Keyed}
@@ -94,30 +95,29 @@ module _ (s : List ℕ) (q : Request) (o p : List ℕ) (room : ℕ) where
   pub plain-ready : decidedAt s q o p room ≡ Plain → Ready (headerBy (settingsOf s) q) q o p room × (q .level ≡ 0)
   unfolding decidedAt
   plain-ready e =
-      let w = came-plain (settingsOf s) (body s 4) (storeOf s .own) q o p room (decided-way (settingsOf s) (body s 4) (storeOf s .own) q o p room) e in
-      (ready (settingsOf s) (body s 4) (storeOf s .own) q o p room (w .0), w .1)
+      let w = came-plain (settingsOf s) (body s lookups) (storeOf s .own) q o p room (decided-way (settingsOf s) (body s lookups) (storeOf s .own) q o p room) e in
+      (ready (settingsOf s) (body s lookups) (storeOf s .own) q o p room (w .0), w .1)
 
-  came : (k : ℕ) → decidedAt s q o p room ≡ Keyed k → Found-key (settingsOf s) (body s 4) (storeOf s .own) q o p room k
+  came : (k : ℕ) → decidedAt s q o p room ≡ Keyed k → Found-key (settingsOf s) (body s lookups) (storeOf s .own) q o p room k
   unfolding decidedAt
-  came k e = came-keyed (settingsOf s) (body s 4) (storeOf s .own) q o p room k (decided-way (settingsOf s) (body s 4) (storeOf s .own) q o p room) e
+  came k e = came-keyed (settingsOf s) (body s lookups) (storeOf s .own) q o p room k (decided-way (settingsOf s) (body s lookups) (storeOf s .own) q o p room) e
 
   pub keyed-ready : (k : ℕ) → decidedAt s q o p room ≡ Keyed k → Ready (headerBy (settingsOf s) q) q o p room
-  keyed-ready k e = ready (settingsOf s) (body s 4) (storeOf s .own) q o p room (came k e .passed)
+  keyed-ready k e = ready (settingsOf s) (body s lookups) (storeOf s .own) q o p room (came k e .passed)
 
   -- the key stands in the site
-  pub key-inside : (k : ℕ) → siteRule s ≡ true → decidedAt s q o p room ≡ Keyed k → k < countOf s 3
-  unfolding keyOf widthOf
+  pub key-inside : (k : ℕ) → siteRule s ≡ true → decidedAt s q o p room ≡ Keyed k → k < countOf s keys
+  unfolding tablesOf
   key-inside k rule e =
       let w = came k e in
-      let l : w .row < countOf s 4 = omega (arith, w .inside, length-body s rule 4 (omega arith)) in
-      omega (arith, rule-lookups s rule (w .row) l, w .key)
+      rw (w .key) at (rule-lookups s rule (w .row) (w .inside))
 
   -- the own counter can rise
   own-small : siteRule s ≡ true → ((i : ℕ) → getD s i 0 < 256) → storeOf s .own < 4294967296
   unfolding storeOf ownCounter body widthOf
   own-small rule small =
-      rw (leAt-take 4 (drop (placeOf s 0) s) (35 * countOf s 0) 31 (omega (arith, rule-one s rule)), leAt-drop 4 s (placeOf s 0) 31)
-      (leAt-lt s small 4 (placeOf s 0 + 31))
+      rw (leAt-take 4 (drop (placeOf settings) s) (35 * countOf s settings) ownAt (omega (arith, rule-one s rule)), leAt-drop 4 s (placeOf settings) ownAt)
+      (leAt-lt s small 4 (placeOf settings + ownAt))
 
   pub own-below : (k : ℕ) → siteRule s ≡ true → ((i : ℕ) → getD s i 0 < 256) → decidedAt s q o p room ≡ Keyed k → storeOf s .own < 4294967295
   own-below k rule small e =
@@ -125,7 +125,7 @@ module _ (s : List ℕ) (q : Request) (o p : List ℕ) (room : ℕ) where
       omega (arith, own-small rule small, n)
 
 -- by the tables that callees found
-pub decided-by : (s t b : List ℕ) (n : ℕ) (q : Request) (o p : List ℕ) (room : ℕ) (u : Decision) → t ≡ settingsOf s → b ≡ body s 4 → n ≡ storeOf s .own
+pub decided-by : (s t b : List ℕ) (n : ℕ) (q : Request) (o p : List ℕ) (room : ℕ) (u : Decision) → t ≡ settingsOf s → b ≡ body s lookups → n ≡ storeOf s .own
     → u ≡ decided t b n q o p room → u ≡ decidedAt s q o p room
 unfolding decidedAt
 decided-by s t b n q o p room u ht hb hn e = e ∙ rw (ht, hb, hn)
@@ -151,18 +151,18 @@ unfolding extendedAddress
 extended-is s u e a b = b ∙ ap (λ (t : List ℕ). leAt 8 t 4) a
 
 module _ (s : List ℕ) (q : Request) (o p : List ℕ) (k : ℕ) where
-  keyed-is : securedBy (cipher (keyAt (body s 3) k)) (nonceOf (extendedAddress (settingsOf s)) (storeOf s .own) (q .level)) (q .level)
+  keyed-is : securedBy (cipher (keyAt (body s keys) k)) (nonceOf (extendedAddress (settingsOf s)) (storeOf s .own) (q .level)) (q .level)
       (headOctets (headerBy (settingsOf s) q) ++ (auxOctets q (storeOf s .own) ++ o)) p
       ≡ keyedBody s q o p k
   unfolding keyedBody
-  keyed-is = body-is (keyAt (body s 3) k) (extendedAddress (settingsOf s)) (storeOf s .own) (q .level) (headOctets (headerBy (settingsOf s) q)) (auxOctets q (storeOf s .own)) o p
+  keyed-is = body-is (keyAt (body s keys) k) (extendedAddress (settingsOf s)) (storeOf s .own) (q .level) (headOctets (headerBy (settingsOf s) q)) (auxOctets q (storeOf s .own)) o p
 
   pub keyed-long : (n : ℕ) → Ready (headerBy (settingsOf s) q) q o p n → length (withFcs (keyedBody s q o p k)) ≤ n
   keyed-long n w =
       let x : ℕ = extendedAddress (settingsOf s) in
-      rw keyed-is at (secured-long (keyAt (body s 3) k) (nonceOf x (storeOf s .own) (q .level)) (headerBy (settingsOf s) q) q (storeOf s .own) o p n w)
+      rw keyed-is at (secured-long (keyAt (body s keys) k) (nonceOf x (storeOf s .own) (q .level)) (headerBy (settingsOf s) q) q (storeOf s .own) o p n w)
 
-  pub keyed-as : (u key nonce : List ℕ) (h : Header) (c e : ℕ) {d d′ : List ℕ} {r : ℕ} → u ≡ settingsOf s → c ≡ storeOf s .own → key ≡ keyAt (body s 3) k
+  pub keyed-as : (u key nonce : List ℕ) (h : Header) (c e : ℕ) {d d′ : List ℕ} {r : ℕ} → u ≡ settingsOf s → c ≡ storeOf s .own → key ≡ keyAt (body s keys) k
       → e ≡ leAt 8 u 4 → nonce ≡ nonceOf e c (q .level) → h ≡ headerBy u q
       → Put d 0 (withFcs (securedBy (cipher key) nonce (q .level) (headOctets h ++ (auxOctets q c ++ o)) p)) r d′
       → Put d 0 (withFcs (keyedBody s q o p k)) r d′
@@ -190,7 +190,7 @@ over f false true true true false true a b c d e g h = refl
 over f false true true true false false a b c d e g h = refl
 
 module _ (s : List ℕ) (q : Request) (o p : List ℕ) where
-  found-is : (u : Found) → onLookup (storeOf s) q o p u ≡ result s q o p (keyed (body s 4) u)
+  found-is : (u : Found) → onLookup (storeOf s) q o p u ≡ result s q o p (keyed (body s lookups) u)
   unfolding onLookup secured keyed result keyedBody storeOf tablesOf
   found-is Nothing = refl
   found-is (At i) = refl
@@ -199,7 +199,7 @@ module _ (s : List ℕ) (q : Request) (o p : List ℕ) where
   unfolding made onCounter decidedAt decided chosen storeOf tablesOf result
   made-is room =
       let t : List ℕ = settingsOf s in
-      let u : Found = keyRow (body s 4) t (q .keymode) (q .keyindex) (q .keysource) (peerOf t (fitted (q .destination))) in
+      let u : Found = keyRow (body s lookups) t (q .keymode) (q .keyindex) (q .keysource) (peerOf t (fitted (q .destination))) in
       ap (λ (z : Made). pick (ltb room 127) (refuse Room)
       (pick (requestRight t q o p)
       (pick (eqb (q .level) 0 || securityOn t)
@@ -210,7 +210,7 @@ module _ (s : List ℕ) (q : Request) (o p : List ℕ) where
       (refuse InvalidParameter))) (found-is u)
       ∙ over (result s q o p) (ltb room 127) (requestRight t q o p) (eqb (q .level) 0 || securityOn t) (leb (frameLen t q o p) 127) (eqb (q .level) 0)
       (eqb (storeOf s .own) 0xffff_ffff) (Refused Room) Plain (Refused CounterError) (Refused FrameTooLong) (Refused UnsupportedSecurity)
-      (keyed (body s 4) u) (Refused InvalidParameter)
+      (keyed (body s lookups) u) (Refused InvalidParameter)
 
   laid-is : (out : List ℕ) (u v : Decision) → u ≡ decidedAt s q o p (length out) → u ≡ v → laid s out (result s q o p v) ≡ builtValid s q o p out
   unfolding builtValid

@@ -9,7 +9,8 @@ use mathlib.Core.Bool.{_||_}
 use mathlib.Core.List.{List}
 use lib.Dec.{leb, ltb, eqb}
 use Rattle.meaning.specs.Octets.{pick}
-use Rattle.meaning.specs.Site.{securityOn, extendedAddress, settingsOf, body, storeOf, keyAt}
+use Rattle.meaning.specs.Records.{keys, lookups, securityOn, extendedAddress, keyAt}
+use Rattle.meaning.specs.Site.{settingsOf, body, storeOf}
 use Rattle.meaning.specs.Steps.{peerOf, keyRow, keyOf}
 use Rattle.meaning.specs.Build.{fitted, headerBy, headOctets, auxOctets, requestRight, securedBody, frameLen}
 use Rattle.meaning.specs.declared.Found.{Found}
@@ -41,10 +42,10 @@ module _ (t b : List ℕ) (c : ℕ) (q : Request) where
 
 -- of a site
 unfoldable pub decidedAt : List ℕ → Request → List ℕ → List ℕ → ℕ → Decision
-decidedAt s q o p room = decided (settingsOf s) (body s 4) (storeOf s .own) q o p room
+decidedAt s q o p room = decided (settingsOf s) (body s lookups) (storeOf s .own) q o p room
 
 -- the frame that key k makes, without its FCS
 unfoldable pub keyedBody : List ℕ → Request → List ℕ → List ℕ → ℕ → List ℕ
 keyedBody s q o p k =
-    securedBody (keyAt (body s 3) k) (extendedAddress (settingsOf s)) (storeOf s .own) (q .level)
+    securedBody (keyAt (body s keys) k) (extendedAddress (settingsOf s)) (storeOf s .own) (q .level)
     (headOctets (headerBy (settingsOf s) q)) (auxOctets q (storeOf s .own)) o p

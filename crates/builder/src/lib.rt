@@ -31,7 +31,7 @@ fn decide_at(site: &[u8], q: Request, opens: &[u8], private: &[u8], room: usize)
     ensures { λ r. ⌜ r ≡ decidedAt (now (site .entry)) q (now (opens .entry)) (now (private .entry)) room ⌝ }
 {
     let settings = site::settings(site);
-    let lookups = site::table(site, 4);
+    let lookups = site::table(site, records::LOOKUPS);
     decide(
         settings,
         lookups,

@@ -1,62 +1,138 @@
 -- Two sites that are alike hold the rules together, stand for the same tables and counters, and are alike again where both raise one counter:
--- their tables of contents agree, every body but the keys' lies before or after the key octets, and so do all counters. Assumes nothing.
+-- their headers agree, every region but the keys' lies before or after the keys' region, and so do all counters. Assumes nothing.
 use mathlib.Core.Path.{_≡_, refl, sym, ap, ap₂, _∙_}
-use Prim.Native.Nat.{ℕ, zero, suc, _+_, _*_, _≤_, _<_}
+use Prim.Native.Nat.{ℕ, suc, _+_, _*_, _-_, _≤_, _<_}
+use native.Mathlib.Decide.{decLt}
 use native.Mathlib.Omega.{arith}
 use mathlib.Core.Bool.{Bool, true, false, _&&_}
-use mathlib.Core.List.{List}
-use lib.ListN.{length, getD, take, drop}
-use lib.Seq.{sets, length-sets, getD-take, take-length, take-all}
-use lib.Dec.{leb, eqb}
-use Rattle.meaning.specs.Octets.{leAt, octs, tab}
-use Rattle.meaning.specs.Site.{widthOf, countOf, placeOf, startOf, entryRight, contentsRight, body, recordsRight, siteRule, counterAt, ownCounter, settingsOf, Tables, tablesOf, storeOf}
+use mathlib.Core.List.{List, [], _∷_}
+use lib.ListN.{length, take, drop, set}
+use lib.Seq.{sets, length-sets, take-length, take-all, take-set-le, take-set-lt}
+use Rattle.meaning.specs.Octets.{leAt, octs}
+use Rattle.meaning.specs.Records.{settings, devices, keys, lookups, kinds, widthOf, limitOf, startBy, Tables, storeRule}
+use Rattle.meaning.specs.Site.{countOf, placeOf, layoutRight, body, siteRule, settingsOf, tablesOf, storeOf}
 use Rattle.meaning.specs.Receive.{raise, raisedIn}
 use Rattle.meaning.proofs.Lists.{take-pre, drop-pre, drop-more}
-use Rattle.meaning.proofs.Scan.{every-same}
-use Rattle.meaning.proofs.Stores.{take-sets, take-sets-lt, drop-sets}
+use Rattle.meaning.proofs.Stores.{drop-sets, drop-sets-add}
 use Rattle.meaning.proofs.Numbers.{leAt-take, length-octs}
-use Rattle.meaning.proofs.Sites.{rule-past, rule-apart}
+use Rattle.meaning.proofs.Records.{tables-same}
+use Rattle.meaning.proofs.Regions.{place-past, place-apart, place-grows, fits}
+use Rattle.meaning.proofs.Sites.{rule-layout, layout-same, layout-limit, layout-body, rule-limit}
 use Rattle.demands.specs.Secrecy.{keysAt, keysLen, AlikeSites}
 
--- ---- equal tables of contents
-module _ (s t : List ℕ) (e : take 42 s ≡ take 42 t) where
-  octet-same : (a : ℕ) → a < 42 → getD s a 0 ≡ getD t a 0
-  octet-same a h = sym (getD-take 42 s a 0 h) ∙ ap (λ (r : List ℕ). getD r a 0) e ∙ getD-take 42 t a 0 h
+-- equal outside the keys' region
+pub record Outside (s t : List ℕ) : Type 0 where
+  pub lengths : length s ≡ length t
+  pub before : take (placeOf keys) s ≡ take (placeOf keys) t
+  pub after : drop (placeOf lookups) s ≡ drop (placeOf lookups) t
 
-  number-same : (a : ℕ) → a + 2 ≤ 42 → leAt 2 s a ≡ leAt 2 t a
-  number-same a h = sym (leAt-take 2 s 42 a h) ∙ ap (λ (r : List ℕ). leAt 2 r a) e ∙ leAt-take 2 t 42 a h
+-- ---- the same stored in both
+module _ {A : Type 0} where
+  take-set-same : (s t : List A) (i j : ℕ) (x : A) → take j s ≡ take j t → take j (set s i x) ≡ take j (set t i x)
+  take-set-same s t i j x e = by (decLt i j)
+    where
+      by : Dec (i < j) → take j (set s i x) ≡ take j (set t i x)
+      by (yes l) = take-set-lt j s i x l ∙ ap (λ (r : List A). set r i x) e ∙ sym (take-set-lt j t i x l)
+      by (no n) = take-set-le j s i x (omega arith) ∙ e ∙ sym (take-set-le j t i x (omega arith))
 
-  count-same : (k : ℕ) → k < 7 → countOf s k ≡ countOf t k
+  pub take-same : (xs s t : List A) (i j : ℕ) → take j s ≡ take j t → take j (sets s i xs) ≡ take j (sets t i xs)
+  take-same [] s t i j e = e
+  take-same (x ∷ xs) s t i j e = take-same xs (set s i x) (set t i x) (suc i) j (take-set-same s t i j x e)
+
+  -- past what is stored, or all of it past the place
+  pub drop-past : (xs ys s t : List A) (i j : ℕ) → i + length xs ≤ j → i + length ys ≤ j → drop j s ≡ drop j t → drop j (sets s i xs) ≡ drop j (sets t i ys)
+  drop-past xs ys s t i j h l e = drop-sets xs s i j h ∙ e ∙ sym (drop-sets ys t i j l)
+
+  drop-same : (xs s t : List A) (i j : ℕ) → j ≤ i → drop j s ≡ drop j t → drop j (sets s i xs) ≡ drop j (sets t i xs)
+  drop-same xs s t i j h e =
+      let k : i ≡ j + (i - j) = omega arith in
+      rw (k, drop-sets-add xs s (i - j) j, drop-sets-add xs t (i - j) j) (ap (λ (r : List A). sets r (i - j) xs) e)
+
+-- ---- two alike sites
+module _ (s t : List ℕ) (a : Outside s t) where
+  outside-count : (k : ℕ) → k < kinds → countOf s k ≡ countOf t k
   unfolding countOf
-  count-same k h = number-same (6 * k + 2) (omega arith)
+  outside-count k h =
+      sym (leAt-take 2 s (placeOf keys) (2 * k) (omega (arith, place-past keys))) ∙ ap (λ (r : List ℕ). leAt 2 r (2 * k)) (a .before)
+      ∙ leAt-take 2 t (placeOf keys) (2 * k) (omega (arith, place-past keys))
 
-  place-same : (k : ℕ) → k < 7 → placeOf s k ≡ placeOf t k
-  unfolding placeOf
-  place-same k h = number-same (6 * k + 4) (omega arith)
+  outside-layout : layoutRight s ≡ layoutRight t
+  outside-layout = layout-same s t (a .lengths) outside-count
 
-  start-same : (k : ℕ) → k < 8 → startOf s k ≡ startOf t k
-  unfolding startOf
-  start-same zero h = refl
-  start-same (suc k) h = rw (start-same k (omega arith), count-same k (omega arith))
+  module _ (layout : layoutRight s ≡ true) where
+    outside-body : (k : ℕ) → k < kinds → (k ≡ keys → ⊥) → body s k ≡ body t k
+    unfolding body
+    outside-body k h d = rw (← outside-count k h) (by (decLt k keys))
+      where
+        by : Dec (k < keys)
+            → take (widthOf k * countOf s k) (drop (placeOf k) s) ≡ take (widthOf k * countOf s k) (drop (placeOf k) t)
+        by (yes l) =
+            drop-pre (placeOf k) (widthOf k * countOf s k) s t
+            (take-pre (placeOf keys) s t (a .before) (placeOf k + widthOf k * countOf s k)
+            (omega (arith, place-apart k keys l, fits k (countOf s k) (layout-limit s layout k h))))
+        by (no n) =
+            let e : lookups + (k - lookups) ≡ k = omega arith in
+            ap (take (widthOf k * countOf s k)) (drop-more (placeOf lookups) (placeOf k) s t (a .after) (rw e at (place-grows lookups (k - lookups))))
 
-  entry-same : (k : ℕ) → k < 7 → entryRight s k ≡ entryRight t k
-  unfolding entryRight
-  entry-same k h =
-      rw (octet-same (6 * k) (omega arith), octet-same (6 * k + 1) (omega arith), count-same k h, place-same k h, start-same k (omega arith))
+    outside-tables : tablesOf s ≡ tablesOf t
+    unfolding tablesOf settingsOf
+    outside-tables = tables-same (body s) (body t) outside-body
 
-  contents-same : length s ≡ length t → contentsRight s ≡ contentsRight t
-  unfolding contentsRight
-  contents-same l =
-      ap₂ (λ (x y : Bool). x && y) (ap (leb 42) l)
-      (ap₂ (λ (x y : Bool). x && y) (every-same (entryRight s) (entryRight t) 7 entry-same) (ap₂ eqb l (start-same 7 (omega arith))))
+    outside-counters : storeOf s .counters ≡ storeOf t .counters
+    unfolding storeOf
+    outside-counters = rw (outside-body devices (omega arith) (λ e. omega arith))
+
+    outside-own : storeOf s .own ≡ storeOf t .own
+    unfolding storeOf
+    outside-own = rw (outside-body settings (omega arith) (λ e. omega arith))
+
+-- the number of keys is not theirs
+outside-keys : (s t : List ℕ) → Outside s t → layoutRight s ≡ true → length (body s keys) ≡ length (body t keys)
+outside-keys s t a layout =
+    layout-body s layout keys (omega arith) ∙ ap (λ (n : ℕ). widthOf keys * n) (outside-count s t a keys (omega arith))
+    ∙ sym (layout-body t (sym (outside-layout s t a) ∙ layout) keys (omega arith))
+
+outside-store : (s t : List ℕ) → Outside s t → layoutRight s ≡ true → storeRule (storeOf s) ≡ storeRule (storeOf t)
+unfolding storeRule storeOf
+outside-store s t a layout = rw (outside-tables s t a layout, outside-keys s t a layout)
+
+-- also where a rule is broken
+outside-rule : (s t : List ℕ) → Outside s t → siteRule s ≡ siteRule t
+unfolding siteRule
+outside-rule s t a = go (layoutRight s) refl
+  where
+    go : (x : Bool) → layoutRight s ≡ x → (layoutRight s && storeRule (storeOf s)) ≡ (layoutRight t && storeRule (storeOf t))
+    go true e = ap₂ (λ (x y : Bool). x && y) (outside-layout s t a) (outside-store s t a e)
+    go false e = rw (← outside-layout s t a, e)
+
+-- ---- a store outside the keys' region
+module _ (s t : List ℕ) (a : Outside s t) where
+  -- any octets inside a region that is not the keys'
+  pub store-outside : (k o : ℕ) (xs : List ℕ) → (k ≡ keys → ⊥) → o + length xs ≤ widthOf k * limitOf k
+      → Outside (sets s (placeOf k + o) xs) (sets t (placeOf k + o) xs)
+  store-outside k o xs d room =
+      record {
+        lengths = length-sets s (placeOf k + o) xs ∙ a .lengths ∙ sym (length-sets t (placeOf k + o) xs);
+        before = take-same xs s t (placeOf k + o) (placeOf keys) (a .before);
+        after = by (decLt k keys);
+      }
+    where
+      by : Dec (k < keys) → drop (placeOf lookups) (sets s (placeOf k + o) xs) ≡ drop (placeOf lookups) (sets t (placeOf k + o) xs)
+      by (yes l) =
+          let h : placeOf k + o + length xs ≤ placeOf lookups = omega (arith, place-apart k lookups (omega arith)) in
+          drop-past xs xs s t (placeOf k + o) (placeOf lookups) h h (a .after)
+      by (no n) =
+          let e : lookups + (k - lookups) ≡ k = omega arith in
+          let g : placeOf lookups ≤ placeOf k = rw e at (place-grows lookups (k - lookups)) in
+          drop-same xs s t (placeOf k + o) (placeOf lookups) (omega arith) (a .after)
 
 -- ---- where the key octets stand
 module _ (s : List ℕ) (rule : siteRule s ≡ true) where
-  keys-at : keysAt s ≡ placeOf s 3
+  keys-at : keysAt s ≡ placeOf keys
   unfolding keysAt
   keys-at = rw rule
 
-  keys-len : keysLen s ≡ 16 * countOf s 3
+  keys-len : keysLen s ≡ widthOf keys * limitOf keys
   unfolding keysLen
   keys-len = rw rule
 
@@ -73,76 +149,35 @@ alike-broken s t broken a =
     sym (take-length s) ∙ e ∙ take-all (length s) t l
 
 -- ---- two alike sites of which one holds the rules
+past-keys : placeOf keys + widthOf keys * limitOf keys ≡ placeOf lookups
+unfolding placeOf startBy
+past-keys = refl
+
+module _ (s t : List ℕ) (rule : siteRule s ≡ true) where
+  to-outside : AlikeSites s t → Outside s t
+  to-outside a =
+      record {
+        lengths = a .lengths;
+        before = rw (keys-at s rule) at (a .before);
+        after = rw (keys-at s rule, keys-len s rule, past-keys) at (a .after);
+      }
+
+  pub from-outside : Outside s t → AlikeSites s t
+  from-outside a =
+      record { lengths = a .lengths; before = rw (keys-at s rule) (a .before); after = rw (keys-at s rule, keys-len s rule, past-keys) (a .after) }
+
 module _ (s t : List ℕ) (rule : siteRule s ≡ true) (a : AlikeSites s t) where
-  before-keys : take (placeOf s 3) s ≡ take (placeOf s 3) t
-  before-keys = rw (keys-at s rule) at (a .before)
-
-  after-keys : drop (placeOf s 3 + 16 * countOf s 3) s ≡ drop (placeOf s 3 + 16 * countOf s 3) t
-  after-keys = rw (keys-at s rule, keys-len s rule) at (a .after)
-
-  alike-contents : take 42 s ≡ take 42 t
-  alike-contents = take-pre (placeOf s 3) s t before-keys 42 (rule-past s rule 3 (omega arith))
-
-  body-before : (k : ℕ) → k < 3 → body s k ≡ body t k
-  unfolding body
-  body-before k h =
-      rw (← place-same s t alike-contents k (omega arith), ← count-same s t alike-contents k (omega arith))
-      (drop-pre (placeOf s k) (widthOf k * countOf s k) s t
-      (take-pre (placeOf s 3) s t before-keys (placeOf s k + widthOf k * countOf s k) (rule-apart s rule k 3 h (omega arith))))
-
-  past-keys : (k : ℕ) → 3 < k → k < 7 → placeOf s 3 + 16 * countOf s 3 ≤ placeOf s k
-  unfolding widthOf
-  past-keys k h l = rule-apart s rule 3 k h l
-
-  body-after : (k : ℕ) → 3 < k → k < 7 → body s k ≡ body t k
-  unfolding body
-  body-after k h l =
-      rw (← place-same s t alike-contents k l, ← count-same s t alike-contents k l)
-      (ap (take (widthOf k * countOf s k))
-      (drop-more (placeOf s 3 + 16 * countOf s 3) (placeOf s k) s t after-keys (past-keys k h l)))
-
-  records-same : recordsRight s ≡ recordsRight t
-  unfolding recordsRight
-  records-same =
-      rw (
-        body-before 0 (omega arith),
-        body-before 1 (omega arith),
-        body-before 2 (omega arith),
-        body-after 4 (omega arith) (omega arith),
-        body-after 5 (omega arith) (omega arith),
-        body-after 6 (omega arith) (omega arith),
-        count-same s t alike-contents 1 (omega arith),
-        count-same s t alike-contents 2 (omega arith),
-        count-same s t alike-contents 3 (omega arith),
-        count-same s t alike-contents 4 (omega arith),
-        count-same s t alike-contents 5 (omega arith),
-        count-same s t alike-contents 6 (omega arith),
-      )
-
   pub alike-rule : siteRule t ≡ true
-  unfolding siteRule
-  alike-rule = sym (ap₂ (λ (x y : Bool). x && y) (contents-same s t alike-contents (a .lengths)) records-same) ∙ rule
+  alike-rule = sym (outside-rule s t (to-outside s t rule a)) ∙ rule
 
   pub alike-tables : tablesOf s ≡ tablesOf t
-  unfolding tablesOf settingsOf
-  alike-tables =
-      rw (
-        body-before 0 (omega arith),
-        body-before 1 (omega arith),
-        body-before 2 (omega arith),
-        body-after 4 (omega arith) (omega arith),
-        body-after 5 (omega arith) (omega arith),
-        body-after 6 (omega arith) (omega arith),
-        count-same s t alike-contents 1 (omega arith),
-      )
+  alike-tables = outside-tables s t (to-outside s t rule a) (rule-layout s rule)
 
   counters-same : storeOf s .counters ≡ storeOf t .counters
-  unfolding storeOf
-  counters-same = ap₂ (λ (b : List ℕ) (n : ℕ). tab (counterAt b) n) (body-before 1 (omega arith)) (count-same s t alike-contents 1 (omega arith))
+  counters-same = outside-counters s t (to-outside s t rule a) (rule-layout s rule)
 
   own-same : storeOf s .own ≡ storeOf t .own
-  unfolding storeOf
-  own-same = ap ownCounter (body-before 0 (omega arith))
+  own-same = outside-own s t (to-outside s t rule a) (rule-layout s rule)
 
   settings-same : storeOf s .tables .settings ≡ storeOf t .tables .settings
   unfolding storeOf
@@ -170,61 +205,21 @@ alike-counters s t a = by (siteRule s) refl
     by true e = counters-same s t e a
     by false e = ap (λ (r : List ℕ). storeOf r .counters) (alike-broken s t e a)
 
--- the key octets stand at the same places in both
-keys-same : (s t : List ℕ) → AlikeSites s t → (keysAt t ≡ keysAt s) × (keysLen t ≡ keysLen s)
-keys-same s t a = by (siteRule s) refl
-  where
-    by : (c : Bool) → siteRule s ≡ c → (keysAt t ≡ keysAt s) × (keysLen t ≡ keysLen s)
-    by true e =
-        let h = alike-contents s t e a in (
-          keys-at t (alike-rule s t e a) ∙ sym (place-same s t h 3 (omega arith)) ∙ sym (keys-at s e),
-          keys-len t (alike-rule s t e a) ∙ ap (λ (n : ℕ). 16 * n) (sym (count-same s t h 3 (omega arith))) ∙ sym (keys-len s e),
-        )
-    by false e = let h = alike-broken s t e a in (ap keysAt (sym h), ap keysLen (sym h))
-
--- so it is the same which of the two is named first
+-- it is the same which of the two is named first
 pub alike-back : (s t : List ℕ) → AlikeSites s t → AlikeSites t s
-alike-back s t a =
-    let k = keys-same s t a in
-    record { lengths = sym (a .lengths); before = rw (k .0) (sym (a .before)); after = rw (k .0, k .1) (sym (a .after)) }
+alike-back s t a = by (siteRule s) refl
+  where
+    by : (c : Bool) → siteRule s ≡ c → AlikeSites t s
+    by true e =
+        let o = to-outside s t e a in
+        from-outside t s (alike-rule s t e a) (record { lengths = sym (o .lengths); before = sym (o .before); after = sym (o .after) })
+    by false e = rw (alike-broken s t e a) (record { lengths = refl; before = refl; after = refl })
 
 -- ---- one counter raised in both
-module _ (s t : List ℕ) (rule : siteRule s ≡ true) (a : AlikeSites s t) (j d c : ℕ) (there : d < countOf s 1) where
-  at : ℕ
-  at = placeOf s 1 + (17 * d + 12)
-
-  here : raisedIn (raise j d c) s ≡ sets s at (octs 4 (suc c))
-  unfolding raisedIn at
-  here = refl
-
-  beside : raisedIn (raise j d c) t ≡ sets t at (octs 4 (suc c))
-  unfolding raisedIn at
-  beside = rw (← place-same s t (alike-contents s t rule a) 1 (omega arith))
-
-  ends : at + length (octs 4 (suc c)) ≤ placeOf s 3
-  unfolding at widthOf
-  ends = omega (arith, rule-apart s rule 1 3 (omega arith) (omega arith), length-octs 4 (suc c))
-
-  contents-kept : take 42 (raisedIn (raise j d c) s) ≡ take 42 s
-  unfolding at
-  contents-kept = rw here (take-sets (octs 4 (suc c)) s _ 42 (omega (arith, rule-past s rule 1 (omega arith))))
-
-  pub raised-alike : siteRule (raisedIn (raise j d c) s) ≡ true → AlikeSites (raisedIn (raise j d c) s) (raisedIn (raise j d c) t)
-  raised-alike kept = record {
-    lengths = rw (here, beside) (length-sets s at (octs 4 (suc c)) ∙ a .lengths ∙ sym (length-sets t at (octs 4 (suc c))));
-    before = rw (keys-at (raisedIn (raise j d c) s) kept, place-same _ s contents-kept 3 (omega arith), here, beside)
-        (take-sets-lt (octs 4 (suc c)) s at (placeOf s 3) ends
-        ∙ ap (λ (r : List ℕ). sets r at (octs 4 (suc c))) (before-keys s t rule a)
-        ∙ sym (take-sets-lt (octs 4 (suc c)) t at (placeOf s 3) ends));
-    after = rw (
-      keys-at (raisedIn (raise j d c) s) kept,
-      keys-len (raisedIn (raise j d c) s) kept,
-      place-same _ s contents-kept 3 (omega arith),
-      count-same _ s contents-kept 3 (omega arith),
-      here,
-      beside,
-    )
-        (drop-sets (octs 4 (suc c)) s at (placeOf s 3 + 16 * countOf s 3) (omega (arith, ends))
-        ∙ after-keys s t rule a
-        ∙ sym (drop-sets (octs 4 (suc c)) t at (placeOf s 3 + 16 * countOf s 3) (omega (arith, ends))));
-  }
+pub raised-alike : (s t : List ℕ) → siteRule s ≡ true → AlikeSites s t → (j d c : ℕ) → d < countOf s devices
+    → siteRule (raisedIn (raise j d c) s) ≡ true → AlikeSites (raisedIn (raise j d c) s) (raisedIn (raise j d c) t)
+unfolding raisedIn widthOf
+raised-alike s t rule a j d c there kept =
+    from-outside _ _ kept
+    (store-outside s t (to-outside s t rule a) devices (17 * d + 12) (octs 4 (suc c)) (λ e. omega arith)
+    (omega (arith, length-octs 4 (suc c), rule-limit s rule devices (omega arith))))

@@ -9,7 +9,7 @@ use lib.Dec.{eqb, leb}
 use borrow.Author.Tests.{eqb-true, eqb-false, le-leb, not-true}
 use Rattle.meaning.specs.Octets.{pick}
 use Rattle.meaning.specs.Frame.{absent, addressLen, modesRight, compressionRight, shapeRight, headRight}
-use Rattle.meaning.specs.Site.{panId, shortAddress, extendedAddress}
+use Rattle.meaning.specs.Records.{panId, shortAddress, extendedAddress}
 use Rattle.meaning.specs.Build.{bit, fitted, ownAddress, compresses, headerBy, headOctets}
 use Rattle.meaning.specs.declared.Address.{Address}
 use Rattle.meaning.specs.declared.Cuts.{Cuts}

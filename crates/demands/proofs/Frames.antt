@@ -11,7 +11,7 @@ use lib.Dec.{eqb}
 use borrow.Author.Tests.{le-leb}
 use Rattle.meaning.specs.Frame.{typeOf, securityOf, levelOf, tagLen, auxM, openM, View, view, openEnd, privateLen, headRight, bodied}
 use Rattle.meaning.specs.Fcs.{fcs, inner, fcsRight}
-use Rattle.meaning.specs.Site.{Tables, Store}
+use Rattle.meaning.specs.Records.{Tables, Store}
 use Rattle.meaning.specs.Receive.{check, onParts, onView, judge, judged}
 use Rattle.meaning.specs.Build.{bit, headerBy, headOctets, auxOctets, frameLen, withFcs}
 use Rattle.meaning.specs.declared.Request.{Request}
@@ -44,11 +44,11 @@ module _ (b : List ℕ) where
   right-with = rw (inner-with, last-with) (same-self (fcs b))
 
 -- a frame that is whole and well formed comes to filter and policies
-judge-whole : (g : Tables) (room n : ℕ) (v : View) → 127 ≤ room → 5 ≤ n → n ≤ 127 → headRight (v .cuts) (v .header) (v .size) ≡ true
+judge-whole : (g : Tables) (n : ℕ) (v : View) → 5 ≤ n → n ≤ 127 → headRight (v .cuts) (v .header) (v .size) ≡ true
     → not (eqb (v .header .security) 1 && eqb (v .header .version) 0) ≡ true → bodied v ≡ true
-    → judge g room n true v ≡ admission g (v .header) (v .aux) (v .opens)
+    → judge g n true v ≡ admission g (v .header) (v .aux) (v .opens)
 unfolding judge onView onParts admission check
-judge-whole g room n v a b c d e f = rw (le-leb 127 room a, le-leb 5 n b, le-leb n 127 c, d, e, f)
+judge-whole g n v a b d e f = rw (le-leb 5 n a, le-leb n 127 b, d, e, f)
 
 no-open : (k : ℕ) (l : List ℕ) → k ≡ 2 → openM k l ≡ 0
 unfolding openM
@@ -150,9 +150,9 @@ module _ (σ : Store) (q : Request) (o p : List ℕ) (r : Ranged q) (ot : Octets
       go false false e = refl
 
   -- ---- so it comes to filter and policies
-  pub judged-is : (g : Tables) (room : ℕ) → 127 ≤ room → judged g room (withFcs (bodySent σ q o p)) ≡ admission g (headerBy (σ .tables .settings) q) x o
+  pub judged-is : (g : Tables) → judged g (withFcs (bodySent σ q o p)) ≡ admission g (headerBy (σ .tables .settings) q) x o
   unfolding judged shown
-  judged-is g room k =
+  judged-is g =
       rw (inner-with (bodySent σ q o p), right-with (bodySent σ q o p), view-is)
-      (judge-whole g room (length (withFcs (bodySent σ q o p))) shown k (omega (arith, length-with (bodySent σ q o p), size-least))
+      (judge-whole g (length (withFcs (bodySent σ q o p))) shown (omega (arith, length-with (bodySent σ q o p), size-least))
       (omega (arith, length-with (bodySent σ q o p), size-most)) head-is legacy-is bodied-is)

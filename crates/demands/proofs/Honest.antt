@@ -9,7 +9,8 @@ use lib.ListN.{length, take, length-append}
 use lib.Seq.{take-at}
 use Rattle.meaning.specs.Frame.{tagLen, View, view, cutsOf, openEnd}
 use Rattle.meaning.specs.Fcs.{inner, fcs, fcsRight}
-use Rattle.meaning.specs.Site.{Store, storeOf}
+use Rattle.meaning.specs.Records.{Store}
+use Rattle.meaning.specs.Site.{storeOf}
 use Rattle.meaning.specs.Receive.{Outcome, received}
 use Rattle.meaning.specs.Build.{headerBy, headOctets, auxOctets, withFcs, frameLen}
 use Rattle.meaning.specs.declared.Judged.{Judged}

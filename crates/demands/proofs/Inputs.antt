@@ -1,5 +1,5 @@
 -- What the log finds in its input. It ends inside an item exactly where the frames, each with its length octet, take fewer octets than there are;
--- and an input put together of a site and frames gives them back: both item by item. So frames that pair up make inputs that are alike.
+-- and an input put together of a file and frames gives them back: both item by item. So frames that pair up make inputs that are alike.
 -- Assumes nothing.
 use mathlib.Core.Path.{_≡_, refl, sym, ap, ap₂, _∙_}
 use mathlib.Core.Bool.{Bool, true, false}
@@ -11,13 +11,17 @@ use lib.ListN.{length, take, drop, replicate, length-append, length-drop}
 use lib.Seq.{take-at, drop-at, length-take-le, drop-drop}
 use borrow.Author.Tests.{ltb-true, ltb-false, lt-ltb, le-ltb}
 use Rattle.meaning.specs.Octets.{leAt, octs}
+use Rattle.meaning.specs.Records.{widthOf, limitOf, startBy}
+use Rattle.meaning.specs.File.{fileMost}
+use Rattle.meaning.specs.Loading.{siteOf}
 use Rattle.meaning.specs.Receive.{received}
 use Rattle.meaning.proofs.Numbers.{length-octs, leAt-octs}
 use Rattle.lines.specs.Text.{heading}
 use Rattle.lines.specs.Log.{items, answers, linesFrom, ending, printedFrom, printedWith, printedSized, printed}
 use Rattle.lines.proofs.Log.{items-frame, items-cut, items-end}
-use Rattle.demands.specs.Secrecy.{AlikeSites, Paired}
-use Rattle.demands.specs.Lines.{siteIn, restIn, AlikeInputs, framed, inputOf}
+use Rattle.demands.specs.Secrecy.{Paired}
+use Rattle.demands.specs.Loading.{AlikeFiles}
+use Rattle.demands.specs.Lines.{fileIn, restIn, AlikeInputs, framed, inputOf}
 
 -- ---- where an input ends
 -- the octets that frames take
@@ -84,24 +88,24 @@ items-framed (f ∷ fs) =
       items-framed fs,
     )
 
-module _ (s : List ℕ) (fs : List (List ℕ)) (h : length s < 256 ^ 2) where
-  size-in : leAt 2 (inputOf s fs) 0 ≡ length s
+module _ (f : List ℕ) (fs : List (List ℕ)) (h : length f < 256 ^ 2) where
+  size-in : leAt 2 (inputOf f fs) 0 ≡ length f
   unfolding inputOf
-  size-in = leAt-octs 2 (length s) (s ++ framed fs) h
+  size-in = leAt-octs 2 (length f) (f ++ framed fs) h
 
-  after : drop 2 (inputOf s fs) ≡ s ++ framed fs
+  after : drop 2 (inputOf f fs) ≡ f ++ framed fs
   unfolding inputOf
-  after = drop-at (octs 2 (length s)) (s ++ framed fs) 2 (length-octs 2 (length s))
+  after = drop-at (octs 2 (length f)) (f ++ framed fs) 2 (length-octs 2 (length f))
 
-  site-in : siteIn (inputOf s fs) ≡ s
-  unfolding siteIn
-  site-in = rw (size-in, after) (take-at s (framed fs) (length s) refl)
+  file-in : fileIn (inputOf f fs) ≡ f
+  unfolding fileIn
+  file-in = rw (size-in, after) (take-at f (framed fs) (length f) refl)
 
-  rest-in : restIn (inputOf s fs) ≡ framed fs
+  rest-in : restIn (inputOf f fs) ≡ framed fs
   unfolding restIn
-  rest-in = rw size-in (sym (drop-drop (length s) 2 (inputOf s fs)) ∙ rw after (drop-at s (framed fs) (length s) refl))
+  rest-in = rw size-in (sym (drop-drop (length f) 2 (inputOf f fs)) ∙ rw after (drop-at f (framed fs) (length f) refl))
 
-  frames-in : items (restIn (inputOf s fs)) .frames ≡ fs
+  frames-in : items (restIn (inputOf f fs)) .frames ≡ fs
   frames-in = rw (rest-in, items-framed fs)
 
 length-framed : (fs : List (List ℕ)) → length (framed fs) ≡ taken fs
@@ -109,46 +113,54 @@ unfolding framed
 length-framed [] = refl
 length-framed (f ∷ fs) = ap suc (length-append f (framed fs) ∙ ap (λ (n : ℕ). length f + n) (length-framed fs))
 
-length-input : (s : List ℕ) (fs : List (List ℕ)) → length (inputOf s fs) ≡ 2 + (length s + taken fs)
+length-input : (f : List ℕ) (fs : List (List ℕ)) → length (inputOf f fs) ≡ 2 + (length f + taken fs)
 unfolding inputOf
-length-input s fs =
-    length-append (octs 2 (length s)) (s ++ framed fs)
-    ∙ ap₂ (λ (m n : ℕ). m + n) (length-octs 2 (length s)) (length-append s (framed fs) ∙ ap (λ (n : ℕ). length s + n) (length-framed fs))
+length-input f fs =
+    length-append (octs 2 (length f)) (f ++ framed fs)
+    ∙ ap₂ (λ (m n : ℕ). m + n) (length-octs 2 (length f)) (length-append f (framed fs) ∙ ap (λ (n : ℕ). length f + n) (length-framed fs))
 
--- alike sites, and frames that pair up
-pub inputs-of : (s t : List ℕ) (fs gs : List (List ℕ)) → length s < 256 ^ 2 → AlikeSites s t
-    → Paired s t (replicate 127 0) (replicate 127 0) fs gs → AlikeInputs (inputOf s fs) (inputOf t gs)
-inputs-of s t fs gs h a p =
-    let k : length t < 256 ^ 2 = rw (← a .lengths) h in
+-- alike files, and frames that pair up where they are loaded
+pub inputs-of : (f g : List ℕ) (fs gs : List (List ℕ)) → length f < 256 ^ 2 → AlikeFiles f g
+    → Paired (siteOf f) (siteOf g) (replicate 127 0) (replicate 127 0) fs gs → AlikeInputs (inputOf f fs) (inputOf g gs)
+inputs-of f g fs gs h a p =
+    let k : length g < 256 ^ 2 = rw (← a .lengths) h in
     record {
       lengths =
-          length-input s fs ∙ ap₂ (λ (m n : ℕ). 2 + (m + n)) (a .lengths) (taken-paired s t (replicate 127 0) (replicate 127 0) fs gs p)
-          ∙ sym (length-input t gs);
-      sizes = size-in s fs h ∙ a .lengths ∙ sym (size-in t gs k);
-      sites = rw (site-in s fs h, site-in t gs k) a;
-      frames = rw (site-in s fs h, site-in t gs k, frames-in s fs h, frames-in t gs k) p;
+          length-input f fs
+          ∙ ap₂ (λ (m n : ℕ). 2 + (m + n)) (a .lengths) (taken-paired (siteOf f) (siteOf g) (replicate 127 0) (replicate 127 0) fs gs p)
+          ∙ sym (length-input g gs);
+      sizes = size-in f fs h ∙ a .lengths ∙ sym (size-in g gs k);
+      files = rw (file-in f fs h, file-in g gs k) a;
+      frames = rw (file-in f fs h, file-in g gs k, frames-in f fs h, frames-in g gs k) p;
     }
 
 -- ---- what is printed of it: a line for each frame
-module _ (s : List ℕ) (fs : List (List ℕ)) (h : length s ≤ 3613) where
-  with-parts : (i : List ℕ) → printedWith (leAt 2 i 0) i ≡ printedFrom 1 (siteIn i) (replicate 127 0) (restIn i)
-  unfolding printedWith siteIn restIn
-  with-parts i = refl
+with-parts : (i : List ℕ) → printedWith (leAt 2 i 0) i ≡ printedFrom 1 (siteOf (fileIn i)) (replicate 127 0) (restIn i)
+unfolding printedWith fileIn restIn
+with-parts i = refl
 
-  with-frames : printedWith (leAt 2 (inputOf s fs) 0) (inputOf s fs) ≡ linesFrom 1 (answers s (replicate 127 0) fs)
+most-small : fileMost < 256 ^ 2
+unfolding fileMost startBy widthOf limitOf
+most-small = omega arith
+
+module _ (f : List ℕ) (fs : List (List ℕ)) (h : length f ≤ fileMost) where
+  short : length f < 256 ^ 2
+  short = omega (arith, most-small)
+
+  with-frames : printedWith (leAt 2 (inputOf f fs) 0) (inputOf f fs) ≡ linesFrom 1 (answers (siteOf f) (replicate 127 0) fs)
   unfolding printedFrom ending
   with-frames =
-      with-parts (inputOf s fs)
-      ∙ rw (site-in s fs (omega arith), rest-in s fs (omega arith), items-framed fs) (append-nil (linesFrom 1 (answers s (replicate 127 0) fs)))
+      with-parts (inputOf f fs)
+      ∙ rw (file-in f fs short, rest-in f fs short, items-framed fs) (append-nil (linesFrom 1 (answers (siteOf f) (replicate 127 0) fs)))
 
-  pub printed-of : printed (inputOf s fs) ≡ heading ++ linesFrom 1 (answers s (replicate 127 0) fs)
+  pub printed-of : printed (inputOf f fs) ≡ heading ++ linesFrom 1 (answers (siteOf f) (replicate 127 0) fs)
   unfolding printed printedSized
   printed-of =
-      let l : length (inputOf s fs) ≡ 2 + (length s + taken fs) = length-input s fs in
-      let n : leAt 2 (inputOf s fs) 0 ≡ length s = size-in s fs (omega arith) in
+      let l : length (inputOf f fs) ≡ 2 + (length f + taken fs) = length-input f fs in
+      let n : leAt 2 (inputOf f fs) 0 ≡ length f = size-in f fs short in
       rw (
         with-frames,
-        le-ltb (length (inputOf s fs)) 2 (omega arith),
-        le-ltb 3613 (leAt 2 (inputOf s fs) 0) (omega arith),
-        le-ltb (length (inputOf s fs) - 2) (leAt 2 (inputOf s fs) 0) (omega arith),
+        le-ltb (length (inputOf f fs)) 2 (omega arith),
+        le-ltb fileMost (leAt 2 (inputOf f fs) 0) (omega arith),
+        le-ltb (length (inputOf f fs) - 2) (leAt 2 (inputOf f fs) 0) (omega arith),
       )

@@ -1,3 +1,4 @@
+pub mod Octets
 pub mod Addresses
 pub mod Heads
 pub mod Asked
@@ -12,6 +13,9 @@ pub mod Round
 pub mod Witness
 pub mod Borders
 pub mod Alike
+pub mod Files
+pub mod Loading
+pub mod Free
 pub mod Secrecy
 pub mod Refusals
 pub mod Unique

@@ -1,12 +1,14 @@
--- The premise of demand 3 for the log is one that a run meets: the sites and frames of `Pairs`, put together as two inputs, differ and are alike, so
+-- The premise of demand 3 for the log is one that a run meets: the files and frames of `Pairs`, put together as two inputs, differ and are alike, so
 -- they print the same lines. The lines are computed: two frames are accepted, three refused. Assumes nothing.
 use native.Mathlib.Omega.{arith}
-use Prim.Native.Nat.{ℕ}
+use Prim.Native.Nat.{ℕ, _≤_}
 use mathlib.Core.Path.{_≡_, refl, ap, _∙_}
 use mathlib.Core.Logic.{_≢_}
 use mathlib.Core.List.{List, [], _∷_}
-use lib.ListN.{getD, drop}
+use lib.ListN.{length, getD, drop}
 use Rattle.meaning.specs.Octets.{octs}
+use Rattle.meaning.specs.Records.{widthOf, limitOf, startBy}
+use Rattle.meaning.specs.File.{fileMost}
 use Rattle.meaning.specs.Receive.{refusal, keep, raise, Outcome, received}
 use Rattle.meaning.specs.declared.Refusal.the-variants.{Fcs, Filtered, CounterError}
 use Rattle.meaning.specs.declared.Received.{Received}
@@ -18,8 +20,9 @@ use Rattle.demands.proofs.Inputs.{inputs-of, printed-of}
 use Rattle.demands.proofs.Lines.{same-lines}
 use Rattle.demands.proofs.Pairs.{
   keyA,
+  fileA,
+  fileB,
   siteA,
-  siteB,
   empty,
   plain,
   strange,
@@ -36,18 +39,18 @@ use Rattle.demands.proofs.Pairs.{
   spoilt-A,
   late-A,
   untagged-A,
-  sites-alike,
+  files-alike,
   frames-paired,
 }
 
 abbrev inputA : List ℕ
-inputA = inputOf siteA framesA
+inputA = inputOf fileA framesA
 
 abbrev inputB : List ℕ
-inputB = inputOf siteB framesB
+inputB = inputOf fileB framesB
 
 pub inputs-alike : AlikeInputs inputA inputB
-inputs-alike = inputs-of siteA siteB framesA framesB (omega arith) sites-alike frames-paired
+inputs-alike = inputs-of fileA fileB framesA framesB (omega arith) files-alike frames-paired
 
 -- the first key octet
 pub inputs-differ : inputA ≢ inputB
@@ -79,6 +82,10 @@ answers-A =
     (answers-of siteA lateA outA (drop 4 framesA) _ _ late-A
     (answers-of siteA untaggedA outA [] _ _ untagged-A refl))))
 
+short-A : length fileA ≤ fileMost
+unfolding fileMost startBy widthOf limitOf
+short-A = omega arith
+
 pub lines-shown : printed inputA ≡ ascii "frame status octets\n1 SUCCESS 3\n2 FILTERED 0\n3 FCS 0\n4 COUNTER_ERROR 0\n5 SUCCESS 2\n"
 unfolding computed linesFrom lineOf nameOf decimal decimalBy
-lines-shown = printed-of siteA framesA (omega arith) ∙ rw answers-A
+lines-shown = printed-of fileA framesA short-A ∙ rw answers-A

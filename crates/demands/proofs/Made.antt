@@ -11,7 +11,8 @@ use lib.Dec.{eqb, leb, ltb}
 use borrow.Author.Tests.{eqb-true, eqb-false, leb-true}
 use Rattle.meaning.specs.Octets.{pick, beside}
 use Rattle.meaning.specs.Status.{number}
-use Rattle.meaning.specs.Site.{extendedAddress, securityOn, siteRule, Store, storeOf}
+use Rattle.meaning.specs.Records.{extendedAddress, securityOn, Store}
+use Rattle.meaning.specs.Site.{siteRule, storeOf}
 use Rattle.meaning.specs.Steps.{peerOf, keyRow}
 use Rattle.meaning.specs.Build.{
   fitted,

@@ -1,31 +1,39 @@
--- The premise of demand 3 is one that runs meet: two sites with different keys and five pairs of frames, accepted and refused, each outcome
--- computed from the definitions. The private octets differ in each pair that has some, and so do tags and FCS. The last pair has no tag, so no
--- verdict waits for the cipher. Assumes nothing.
-use mathlib.Core.Path.{_≡_, refl, ap}
+-- The premise of demand 3 is one that runs meet: the sites of two files with different keys and five pairs of frames, accepted and refused, each
+-- verdict computed from the file's store. The private octets differ in each pair that has some, and so do tags and FCS. The last pair has no tag, so
+-- no verdict waits for the cipher. Assumes nothing.
+use mathlib.Core.Path.{_≡_, refl, sym, ap, _∙_}
 use mathlib.Core.Logic.{_≢_}
 use Prim.Native.Nat.{ℕ, _+_}
 use native.Mathlib.Omega.{arith}
+use mathlib.Core.Bool.{true}
 use mathlib.Core.List.{List, [], _∷_, _++_}
 use lib.ListN.{length, getD, take, drop, replicate}
 use Rattle.meaning.specs.Octets.{tab}
 use Rattle.meaning.specs.Frame.{view}
 use Rattle.meaning.specs.Fcs.{inner, fcsRight}
-use Rattle.meaning.specs.Receive.{refusal, report, Raise, keep, raise, accept, opened, Outcome, outcome, write, received}
+use Rattle.meaning.specs.Records.{Store}
+use Rattle.meaning.specs.File.{fileRule}
+use Rattle.meaning.specs.Site.{storeOf}
+use Rattle.meaning.specs.Loading.{siteOf}
+use Rattle.meaning.specs.Receive.{refusal, report, Raise, keep, raise, refuse, accept, opened, Outcome, outcome, write, received}
 use Rattle.meaning.specs.Build.{withFcs}
 use Rattle.meaning.specs.declared.Refusal.the-variants.{Fcs, Filtered, CounterError}
-use Rattle.demands.specs.Secrecy.{keysAt, keysLen, AlikeSites, span, outside, Paired, Agree, Secret}
+use Rattle.meaning.proofs.Bridges.{site-of-store}
+use Rattle.demands.specs.Secrecy.{AlikeSites, span, outside, Paired, Agree, Secret}
+use Rattle.demands.specs.Loading.{fileKeysAt, fileKeysLen, AlikeFiles}
 use Rattle.demands.proofs.Secrecy.{secrecy, tags-by-status}
-use Rattle.demands.proofs.Computing.{computed}
+use Rattle.demands.proofs.Loading.{sites-of}
+use Rattle.demands.proofs.Computing.{read, computed, received-by}
 
--- ---- two sites: one device, one key; the key and the device's counter are given
+-- ---- two files: one device, one key; the key and the device's counter are given
 abbrev pub keyA : List ℕ
 keyA = tab (λ i. 0xc0 + i) 16
 
 abbrev keyB : List ℕ
 keyB = tab (λ i. 0x30 + i) 16
 
-abbrev siteOf : List ℕ → ℕ → List ℕ
-siteOf key counter =
+abbrev fileBy : List ℕ → ℕ → List ℕ
+fileBy key counter =
     -- table of contents
     (1 ∷ 35 ∷ 1 ∷ 0 ∷ 42 ∷ 0 ∷ 2 ∷ 17 ∷ 1 ∷ 0 ∷ 77 ∷ 0 ∷ 3 ∷ 5 ∷ 1 ∷ 0 ∷ 94 ∷ 0 ∷ 4 ∷ 16 ∷ 1 ∷ 0 ∷ 99 ∷ 0
     ∷ 5 ∷ 22 ∷ 1 ∷ 0 ∷ 115 ∷ 0 ∷ 6 ∷ 3 ∷ 1 ∷ 0 ∷ 137 ∷ 0 ∷ 7 ∷ 2 ∷ 1 ∷ 0 ∷ 140 ∷ 0 ∷ [])
@@ -41,11 +49,25 @@ siteOf key counter =
     ++ ((0 ∷ 1 ∷ 0 ∷ [])
     ++ (0 ∷ 0 ∷ []))))))))
 
+abbrev pub fileA : List ℕ
+fileA = fileBy keyA 5
+
+abbrev pub fileB : List ℕ
+fileB = fileBy keyB 5
+
 abbrev pub siteA : List ℕ
-siteA = siteOf keyA 5
+siteA = siteOf fileA
 
 abbrev pub siteB : List ℕ
-siteB = siteOf keyB 5
+siteB = siteOf fileB
+
+pub rule-A : fileRule fileA ≡ true
+unfolding read
+rule-A = refl
+
+rule-B : fileRule fileB ≡ true
+unfolding read
+rule-B = refl
 
 abbrev pub empty : List ℕ
 empty = replicate 127 0
@@ -114,56 +136,63 @@ abbrev pub took : List ℕ → List ℕ → List ℕ → ℕ → ℕ → List �
 took s f o l d q r = write s o (accept (report (view (inner f)) l d) q r)
 
 pub plain-A : received siteA (plain (1 ∷ 2 ∷ 3 ∷ [])) empty ≡ took siteA (plain (1 ∷ 2 ∷ 3 ∷ [])) empty 0 0 (1 ∷ 2 ∷ 3 ∷ []) keep
-unfolding computed
-plain-A = refl
+unfolding read computed
+plain-A = received-by fileA rule-A (plain (1 ∷ 2 ∷ 3 ∷ [])) empty _ refl
 
 plain-B : received siteB (plain (4 ∷ 5 ∷ 6 ∷ [])) empty ≡ took siteB (plain (4 ∷ 5 ∷ 6 ∷ [])) empty 0 0 (4 ∷ 5 ∷ 6 ∷ []) keep
-unfolding computed
-plain-B = refl
+unfolding read computed
+plain-B = received-by fileB rule-B (plain (4 ∷ 5 ∷ 6 ∷ [])) empty _ refl
 
 pub strange-A : received siteA strange outA ≡ outcome (refusal Filtered) siteA outA
-unfolding computed
-strange-A = refl
+unfolding read computed
+strange-A = received-by fileA rule-A strange outA (refuse Filtered) refl
 
 strange-B : received siteB strange outB ≡ outcome (refusal Filtered) siteB outB
-unfolding computed
-strange-B = refl
+unfolding read computed
+strange-B = received-by fileB rule-B strange outB (refuse Filtered) refl
 
 pub spoilt-A : received siteA (spoilt 0) outA ≡ outcome (refusal Fcs) siteA outA
-unfolding computed
-spoilt-A = refl
+unfolding read computed
+spoilt-A = received-by fileA rule-A (spoilt 0) outA (refuse Fcs) refl
 
 spoilt-B : received siteB (spoilt 1) outB ≡ outcome (refusal Fcs) siteB outB
-unfolding computed
-spoilt-B = refl
+unfolding read computed
+spoilt-B = received-by fileB rule-B (spoilt 1) outB (refuse Fcs) refl
 
 pub late-A : received siteA lateA outA ≡ outcome (refusal CounterError) siteA outA
-unfolding computed
-late-A = refl
+unfolding read computed
+late-A = received-by fileA rule-A lateA outA (refuse CounterError) refl
 
 late-B : received siteB lateB outB ≡ outcome (refusal CounterError) siteB outB
-unfolding computed
-late-B = refl
+unfolding read computed
+late-B = received-by fileB rule-B lateB outB (refuse CounterError) refl
 
 -- what the cipher makes of it is left as it stands
 abbrev pub text : List ℕ → List ℕ → List ℕ
 text key f = opened key 0xacde480000000002 (view (inner f)) (inner f) .text
 
 pub untagged-A : received siteA untaggedA outA ≡ took siteA untaggedA outA 4 1 (text keyA untaggedA) (raise 0 0 5)
-unfolding computed
-untagged-A = refl
+unfolding read computed
+untagged-A = received-by fileA rule-A untaggedA outA _ refl
 
 untagged-B : received siteB untaggedB outB ≡ took siteB untaggedB outB 4 1 (text keyB untaggedB) (raise 0 0 5)
-unfolding computed
-untagged-B = refl
+unfolding read computed
+untagged-B = received-by fileB rule-B untaggedB outB _ refl
 
 -- ---- the premise is met
-pub sites-alike : AlikeSites siteA siteB
-unfolding computed keysAt keysLen
-sites-alike = record { lengths = refl; before = refl; after = refl }
+pub files-alike : AlikeFiles fileA fileB
+unfolding read fileKeysAt fileKeysLen
+files-alike = record { lengths = refl; before = refl; after = refl }
 
+pub sites-alike : AlikeSites siteA siteB
+sites-alike = sites-of fileA fileB files-alike
+
+-- the first key octet
 pub keys-differ : siteA ≢ siteB
-keys-differ e = let z : _≡_ {A = ℕ} 0xc0 0x30 = ap (λ (s : List ℕ). getD s 99 0) e in omega arith
+unfolding read
+keys-differ e =
+    let z : _≡_ {A = ℕ} 0xc0 0x30 = ap (λ (σ : Store). getD (σ .keys) 0 0) (sym (site-of-store fileA rule-A) ∙ ap storeOf e ∙ site-of-store fileB rule-B) in
+    omega arith
 
 pub frames-paired : Paired siteA siteB empty empty framesA framesB
 unfolding computed span

@@ -10,7 +10,7 @@ use lib.Dec.{eqb}
 use borrow.Author.Tests.{eqb-true, ne-eqb}
 use Rattle.meaning.specs.Octets.{pick}
 use Rattle.meaning.specs.Frame.{tagLen}
-use Rattle.meaning.specs.Site.{extendedAddress, Store}
+use Rattle.meaning.specs.Records.{extendedAddress, Store}
 use Rattle.meaning.specs.Cipher.{cipher, cipherWith, addRoundKey}
 use Rattle.meaning.specs.Ccm.{Sealed}
 use Rattle.meaning.specs.Build.{headerBy, headOctets, auxOctets, sealing, securedBody, plainBody}

@@ -8,7 +8,7 @@ use lib.Seq.{take-at, drop-at, drop-drop}
 use Rattle.meaning.specs.Octets.{part}
 use Rattle.meaning.specs.Frame.{View, openEnd, privateLen}
 use Rattle.meaning.specs.Fcs.{fcs}
-use Rattle.meaning.specs.Site.{Store}
+use Rattle.meaning.specs.Records.{Store}
 use Rattle.meaning.specs.Receive.{privateOf}
 use Rattle.meaning.specs.Build.{headerBy, headOctets, auxOctets, frameLen, withFcs}
 use Rattle.meaning.specs.declared.Request.{Request}

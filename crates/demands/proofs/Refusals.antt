@@ -6,13 +6,16 @@ use native.Mathlib.Omega.{arith}
 use mathlib.Core.Bool.{Bool, true, false}
 use mathlib.Core.List.{List}
 use lib.ListN.{length}
+use lib.Dec.{leb}
 use Rattle.meaning.specs.Octets.{pick}
 use Rattle.meaning.specs.Status.{number}
 use Rattle.meaning.specs.Ccm.{Opened}
 use Rattle.meaning.specs.Frame.{View, view}
 use Rattle.meaning.specs.Fcs.{inner}
-use Rattle.meaning.specs.Site.{siteRule, Store, storeOf}
+use Rattle.meaning.specs.Records.{Store}
+use Rattle.meaning.specs.Site.{siteRule, storeOf}
 use Rattle.meaning.specs.Receive.{
+  judged,
   refusal,
   report,
   Raise,
@@ -108,7 +111,11 @@ sound-settle σ v b (Secure k j d) = sound-admit _ _ v _ (suc d) _
 
 sound-verdict : (σ : Store) (room : ℕ) (f : List ℕ) → Sound (verdict σ room f)
 unfolding verdict
-sound-verdict σ room f = sound-settle σ (view (inner f)) (inner f) _
+sound-verdict σ room f = by (leb 127 room)
+  where
+    by : (c : Bool) → Sound (pick c (settle σ (view (inner f)) (inner f) (judged (σ .tables) f)) (refuse Room))
+    by true = sound-settle σ (view (inner f)) (inner f) _
+    by false = tt
 
 written : (s o : List ℕ) (v : Verdict) → Sound v → Ends s o (write s o v)
 unfolding write

@@ -1,19 +1,20 @@
 -- Demand 2's round trip: a frame that was built comes back, for every level, key mode, address form and length at once. Its parts are read back as
 -- they were laid, and unsealing opens what was sealed. Assumes nothing.
 use mathlib.Core.Path.{_≡_, ap, _∙_}
-use Prim.Native.Nat.{ℕ, zero, suc, _+_, _*_, _^_, _<_}
+use Prim.Native.Nat.{ℕ, _+_, _*_, _^_, _<_}
 use native.Mathlib.Omega.{arith}
-use mathlib.Core.List.{List, [], _∷_}
-use lib.ListN.{length, take, drop}
-use lib.Seq.{getD-drop}
+use mathlib.Core.List.{List}
+use lib.ListN.{length, drop}
 use Rattle.meaning.specs.Octets.{beside}
-use Rattle.meaning.specs.Site.{ownCounter, widthOf, countOf, placeOf, body, settingsOf, tablesOf, storeOf}
+use Rattle.meaning.specs.Records.{settings, widthOf, ownAt, ownCounter}
+use Rattle.meaning.specs.Site.{countOf, placeOf, body, settingsOf, tablesOf, storeOf}
 use Rattle.meaning.specs.Receive.{judged, raisedIn, outcome, write, receivedValid, received}
 use Rattle.meaning.specs.Build.{headerBy, auxOctets}
 use Rattle.meaning.specs.declared.Judged.{Judged}
 use Rattle.meaning.specs.declared.Request.{Request}
 use Rattle.meaning.proofs.Numbers.{leAt-lt}
 use Rattle.demands.specs.Round.{Octets, Sent, frameSent, admission, Well-formed, Taken, raiseOf, reportOf, Comes-back}
+use Rattle.demands.proofs.Octets.{take-octets, drop-octets}
 use Rattle.demands.proofs.Asked.{Asked, asked}
 use Rattle.demands.proofs.Parts.{bodySent}
 use Rattle.demands.proofs.Made.{Making, sent}
@@ -22,28 +23,17 @@ use Rattle.demands.proofs.Places.{opens-is}
 use Rattle.demands.proofs.Verdict.{verdict-is}
 
 -- ---- octets
-take-octets : (n : ℕ) (s : List ℕ) → Octets s → Octets (take n s)
-unfolding Octets
-take-octets zero s h i = omega arith
-take-octets (suc n) [] h i = omega arith
-take-octets (suc n) (x ∷ s) h zero = h 0
-take-octets (suc n) (x ∷ s) h (suc i) = take-octets n s (λ j. h (suc j)) i
-
-drop-octets : (n : ℕ) (s : List ℕ) → Octets s → Octets (drop n s)
-unfolding Octets
-drop-octets n s h i = rw (getD-drop n s i 0) (h (n + i))
-
 body-octets : (s : List ℕ) (k : ℕ) → Octets s → Octets (body s k)
 unfolding body
-body-octets s k h = take-octets (widthOf k * countOf s k) (drop (placeOf s k) s) (drop-octets (placeOf s k) s h)
+body-octets s k h = take-octets (widthOf k * countOf s k) (drop (placeOf k) s) (drop-octets (placeOf k) s h)
 
 pub settings-octets : (s : List ℕ) → Octets s → Octets (storeOf s .tables .settings)
 unfolding storeOf tablesOf settingsOf
-settings-octets s h = take-octets 31 (body s 0) (body-octets s 0 h)
+settings-octets s h = take-octets ownAt (body s settings) (body-octets s settings h)
 
 own-small : (s : List ℕ) → Octets s → storeOf s .own < 256 ^ 4
 unfolding storeOf ownCounter Octets
-own-small s h = leAt-lt (body s 0) (body-octets s 0 h) 4 31
+own-small s h = leAt-lt (body s settings) (body-octets s settings h) 4 ownAt
 
 -- ---- the theorems
 module _ (s : List ℕ) (q : Request) (o p out : List ℕ) (z : Sent s q o p out) where
@@ -65,7 +55,7 @@ module _ (s : List ℕ) (q : Request) (o p out : List ℕ) (z : Sent s q o p out
       record {
         least = omega (arith, long, size-least (storeOf s) q o p (z .ranged) ot right (m .fits));
         most = omega (arith, long, size-most (storeOf s) q o p (z .ranged) ot right (m .fits));
-        decided = λ t room k. ap (judged t room) (m .is) ∙ judged-is (storeOf s) q o p (z .ranged) ot right (m .fits) t room k;
+        decided = λ t. ap (judged t) (m .is) ∙ judged-is (storeOf s) q o p (z .ranged) ot right (m .fits) t;
       }
 
   module _ (r out′ : List ℕ) (g : Judged) (t : Taken s q o r out′ g) where

@@ -5,7 +5,7 @@ use mathlib.Core.Logic.{_⊎_, inl, inr, ⊎-elim}
 use Prim.Native.Nat.{ℕ, suc, _+_, _-_, _<_, max}
 use native.Mathlib.Nat.{le-max-left}
 use native.Mathlib.Omega.{arith}
-use mathlib.Core.Bool.{Bool, true, false}
+use mathlib.Core.Bool.{Bool, true, false, _&&_}
 use mathlib.Core.List.{List, [], _∷_}
 use mathlib.Core.Option.{none, some}
 use lib.ListN.{length, getD, take, drop, length-append, length-take, length-drop}
@@ -14,8 +14,8 @@ use Rattle.meaning.specs.Octets.{pick, part, beside}
 use Rattle.meaning.specs.Status.{number}
 use Rattle.meaning.specs.Frame.{counterOf, View, view, cutsOf, openEnd, privateLen}
 use Rattle.meaning.specs.Fcs.{inner, fcsRight}
-use Rattle.meaning.specs.Site.{widthOf, countOf, siteRule, Store, tablesOf, storeOf, keyAt}
-use Rattle.meaning.specs.Steps.{noDevice, handleOf}
+use Rattle.meaning.specs.Records.{devices, Store, keyAt, noDevice}
+use Rattle.meaning.specs.Site.{countOf, siteRule, tablesOf, storeOf}
 use Rattle.meaning.specs.Cipher.{cipher}
 use Rattle.meaning.specs.Ccm.{Opened}
 use Rattle.meaning.specs.Receive.{
@@ -44,14 +44,14 @@ use Rattle.meaning.specs.Receive.{
   received,
 }
 use Rattle.meaning.specs.declared.Refusal.{Refusal}
-use Rattle.meaning.specs.declared.Refusal.the-variants.{Site}
+use Rattle.meaning.specs.declared.Refusal.the-variants.{Site, Room}
 use Rattle.meaning.specs.declared.Judged.{Judged}
 use Rattle.meaning.specs.declared.Judged.the-variants.{Refused, Plain, Secure}
 use Rattle.meaning.proofs.Lists.{take-pre, take-comm, drop-pre, drop-more, over}
 use Rattle.meaning.proofs.Frame.{view-same, open-end}
 use Rattle.meaning.proofs.Ccm.{length-text}
 use Rattle.meaning.proofs.Ways.{secure-fits}
-use Rattle.meaning.proofs.Sites.{length-body, rule-handles}
+use Rattle.meaning.proofs.Sites.{rule-handles}
 use Rattle.meaning.proofs.Raises.{raised-rule}
 use Rattle.demands.specs.Secrecy.{AlikeSites, span, outside, tagAt, tagSeen, AlikeFrames, Paired, Agreed, Agree, Secret}
 use Rattle.demands.proofs.Alike.{alike-broken, alike-rule, alike-tables, alike-counters, raised-alike}
@@ -171,7 +171,7 @@ kept-both : (s t : List ℕ) → AlikeSites s t → AlikeSites (raisedIn keep s)
 unfolding raisedIn
 kept-both s t a = a
 
-raised-both : (s t : List ℕ) (r : Raise) → siteRule s ≡ true → AlikeSites s t → Raises (countOf s 1) r → AlikeSites (raisedIn r s) (raisedIn r t)
+raised-both : (s t : List ℕ) (r : Raise) → siteRule s ≡ true → AlikeSites s t → Raises (countOf s devices) r → AlikeSites (raisedIn r s) (raisedIn r t)
 raised-both s t keep rule a h = kept-both s t a
 raised-both s t (raise j d c) rule a h = raised-alike s t rule a j d c h (raised-rule s rule j d c h)
 
@@ -195,7 +195,7 @@ both-refuse m s t f g o p r a = record {
 
 module _ (m : ℕ) (s t f g o p : List ℕ) (v : View) (rule : siteRule s ≡ true) (a : Standing m s t o p) where
   -- an acceptance in both
-  both-accept : (l d : ℕ) (q q′ : List ℕ) (r : Raise) → length q ≡ privateLen v → length q′ ≡ privateLen v → Raises (countOf s 1) r
+  both-accept : (l d : ℕ) (q q′ : List ℕ) (r : Raise) → length q ≡ privateLen v → length q′ ≡ privateLen v → Raises (countOf s devices) r
       → take (openEnd (v .cuts)) f ≡ take (openEnd (v .cuts)) g
       → Agreed (max m (report v l d .private)) f g (outcome (report v l d) (raisedIn r s) (beside q o))
       (outcome (report v l d) (raisedIn r t) (beside q′ p))
@@ -211,7 +211,7 @@ module _ (m : ℕ) (s t f g o p : List ℕ) (v : View) (rule : siteRule s ≡ tr
         ∙ sym (over q′ p (max m (privateLen v)) (omega (arith, lq′)));
   }
 
-  stepped : (x y : Verdict) → Near v (countOf s 1) x y → (write s o x .answer .status ≡ 0 → take (openEnd (v .cuts)) f ≡ take (openEnd (v .cuts)) g)
+  stepped : (x y : Verdict) → Near v (countOf s devices) x y → (write s o x .answer .status ≡ 0 → take (openEnd (v .cuts)) f ≡ take (openEnd (v .cuts)) g)
       → Agreed (max m (write s o x .answer .private)) f g (write s o x) (write t p y)
   unfolding write report
   stepped x y (refusing r) e = both-refuse m s t f g o p r a
@@ -227,15 +227,15 @@ module _ (s f o : List ℕ) where
   unfolding received
   as-broken e = rw e
 
-  tag-seen : siteRule s ≡ true → tagSeen s f o ≡ tagAt (storeOf s) (view (inner f)) (inner f) (judged (storeOf s .tables) (length o) f)
+  tag-seen : siteRule s ≡ true → leb 127 (length o) ≡ true
+      → tagSeen s f o ≡ tagAt (storeOf s) (view (inner f)) (inner f) (judged (storeOf s .tables) f)
   unfolding tagSeen
-  tag-seen e = rw e
+  tag-seen e r = rw (e, r)
 
-judged-same : (s t f g o p : List ℕ) → tablesOf s ≡ tablesOf t → length f ≡ length g → fcsRight f ≡ fcsRight g
-    → view (inner f) ≡ view (inner g)
-    → length o ≡ length p → judged (storeOf s .tables) (length o) f ≡ judged (storeOf t .tables) (length p) g
+judged-same : (s t f g : List ℕ) → tablesOf s ≡ tablesOf t → length f ≡ length g → fcsRight f ≡ fcsRight g
+    → view (inner f) ≡ view (inner g) → judged (storeOf s .tables) f ≡ judged (storeOf t .tables) g
 unfolding judged storeOf
-judged-same s t f g o p et l c ev r = rw (et, l, c, ev, r)
+judged-same s t f g et l c ev = rw (et, l, c, ev)
 
 module _ (m : ℕ) (s t f g o p : List ℕ) (st : Standing m s t o p) (a : AlikeFrames s t f g o p) where
   pub same-view : view (inner f) ≡ view (inner g)
@@ -247,22 +247,38 @@ module _ (m : ℕ) (s t f g o p : List ℕ) (st : Standing m s t o p) (a : Alike
   same-open e = subst (λ (n : ℕ). take n f ≡ take n g) (span-open (received s f o .answer .status) f e) (a .octets)
 
   module _ (rule : siteRule s ≡ true) where
-    same-judged : judged (storeOf s .tables) (length o) f ≡ judged (storeOf t .tables) (length p) g
-    same-judged = judged-same s t f g o p (alike-tables s t rule (st .sites)) (a .lengths) (a .checks) same-view (st .rooms)
+    same-judged : judged (storeOf s .tables) f ≡ judged (storeOf t .tables) g
+    same-judged = judged-same s t f g (alike-tables s t rule (st .sites)) (a .lengths) (a .checks) same-view
 
-    named : (k j d : ℕ) → judged (storeOf s .tables) (length o) f ≡ Secure k j d → d < countOf s 1
-    unfolding storeOf tablesOf handleOf widthOf
+    named : (k j d : ℕ) → judged (storeOf s .tables) f ≡ Secure k j d → d < countOf s devices
+    unfolding storeOf
     named k j d e =
-        let w = secure-fits (storeOf s .tables) (length o) f k j d e .1 in
-        omega (arith, w .device, rule-handles s rule j (omega (arith, w .handle-below, length-body s rule 6 (omega arith))))
+        let w = secure-fits (storeOf s .tables) f k j d e .1 in
+        rw (w .device) (rule-handles s rule j (w .handle-below))
 
-    near : Near (view (inner f)) (countOf s 1) (verdict (storeOf s) (length o) f) (verdict (storeOf t) (length p) g)
-    unfolding verdict
-    near =
+    abbrev settled : Verdict
+    settled = settle (storeOf s) (view (inner f)) (inner f) (judged (storeOf s .tables) f)
+
+    abbrev settled′ : Verdict
+    settled′ = settle (storeOf t) (view (inner g)) (inner g) (judged (storeOf t .tables) g)
+
+    -- where there is room for both
+    near-roomy : leb 127 (length o) ≡ true → Near (view (inner f)) (countOf s devices) settled settled′
+    near-roomy r =
+        let r′ : leb 127 (length p) ≡ true = rw (← st .rooms) r in
         rw (← same-view, ← same-judged)
-        (near-settle (storeOf s) (storeOf t) (view (inner f)) (countOf s 1) (inner f) (inner g) (judged (storeOf s .tables) (length o) f)
+        (near-settle (storeOf s) (storeOf t) (view (inner f)) (countOf s devices) (inner f) (inner g) (judged (storeOf s .tables) f)
         (alike-counters s t (st .sites)) (view-long (inner f)) (ap (λ (v : View). v .size) same-view ∙ view-long (inner g)) named
-        (λ x y i k. a .tags x y (tag-seen s f o rule ∙ i) (tag-seen t g p (alike-rule s t rule (st .sites)) ∙ rw (← same-view, ← same-judged) k)))
+        (λ x y i k. a .tags x y (tag-seen s f o rule r ∙ i)
+        (tag-seen t g p (alike-rule s t rule (st .sites)) r′ ∙ rw (← same-view, ← same-judged) k)))
+
+    near : Near (view (inner f)) (countOf s devices) (verdict (storeOf s) (length o) f) (verdict (storeOf t) (length p) g)
+    unfolding verdict
+    near = rw (← st .rooms) (by (leb 127 (length o)) refl)
+      where
+        by : (c : Bool) → leb 127 (length o) ≡ c → Near (view (inner f)) (countOf s devices) (pick c settled (refuse Room)) (pick c settled′ (refuse Room))
+        by true e = near-roomy e
+        by false e = refusing Room
 
     valid : Agreed (max m (received s f o .answer .private)) f g (received s f o) (received t g p)
     valid =
@@ -318,14 +334,15 @@ shown-settle σ v s o b (Secure k j d) x e = shown-admit s o v _ (suc d) _ (time
 
 pub tag-shown : (s f o : List ℕ) (x : Bool) → tagSeen s f o ≡ some x → received s f o .answer .status ≡ pick x 0 15
 unfolding tagSeen received receivedValid verdict
-tag-shown s f o x = by (siteRule s)
+tag-shown s f o x = by (siteRule s) (leb 127 (length o))
   where
-    by : (c : Bool)
-        → pick c (tagAt (storeOf s) (view (inner f)) (inner f) (judged (storeOf s .tables) (length o) f)) none ≡ some x
-        → pick c (write s o (settle (storeOf s) (view (inner f)) (inner f) (judged (storeOf s .tables) (length o) f)))
+    by : (c d : Bool)
+        → pick (c && d) (tagAt (storeOf s) (view (inner f)) (inner f) (judged (storeOf s .tables) f)) none ≡ some x
+        → pick c (write s o (pick d (settle (storeOf s) (view (inner f)) (inner f) (judged (storeOf s .tables) f)) (refuse Room)))
         (outcome (refusal Site) s o) .answer .status ≡ pick x 0 15
-    by true e = shown-settle (storeOf s) (view (inner f)) s o (inner f) _ x e
-    by false e = absurd (let z : _≡_ {A = ℕ} 0 1 = cc in omega arith)
+    by true true e = shown-settle (storeOf s) (view (inner f)) s o (inner f) _ x e
+    by true false e = absurd (let z : _≡_ {A = ℕ} 0 1 = cc in omega arith)
+    by false d e = absurd (let z : _≡_ {A = ℕ} 0 1 = cc in omega arith)
 
 -- so the tags agree where the statuses do
 pub tags-by-status : (s t f g o p : List ℕ) → received s f o .answer .status ≡ received t g p .answer .status

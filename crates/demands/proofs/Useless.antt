@@ -7,12 +7,15 @@ use native.Mathlib.Omega.{arith}
 use mathlib.Core.Bool.{Bool, true, false}
 use mathlib.Core.List.{List, [], _∷_}
 use lib.ListN.{length, getD}
+use lib.Dec.{leb}
 use Rattle.meaning.specs.Octets.{pick}
 use Rattle.meaning.specs.Frame.{counterOf, View, view, privateLen}
 use Rattle.meaning.specs.Fcs.{inner}
 use Rattle.meaning.specs.Ccm.{Opened}
-use Rattle.meaning.specs.Site.{siteRule, Store, storeOf}
+use Rattle.meaning.specs.Records.{Store}
+use Rattle.meaning.specs.Site.{siteRule, storeOf}
 use Rattle.meaning.specs.Receive.{
+  judged,
   refusal,
   report,
   Raise,
@@ -32,15 +35,15 @@ use Rattle.meaning.specs.Receive.{
   receivedValid,
   received,
 }
-use Rattle.meaning.specs.declared.Refusal.the-variants.{Site}
+use Rattle.meaning.specs.declared.Refusal.the-variants.{Room, Site}
 use Rattle.meaning.specs.declared.Refusal.{Refusal}
 use Rattle.meaning.specs.declared.Received.{Received}
 use Rattle.meaning.specs.declared.Judged.{Judged}
 use Rattle.meaning.specs.declared.Judged.the-variants.{Refused, Plain, Secure}
 use Rattle.demands.specs.Useless.{Receiver, Promised, RefusesAll, OneSuccess, WritesNothing, Repeats, TrueLength, TrueCounter}
 use Rattle.demands.proofs.Refusals.{listed}
-use Rattle.demands.proofs.Computing.{computed}
-use Rattle.demands.proofs.Pairs.{siteA, empty, plain, strange}
+use Rattle.demands.proofs.Computing.{read, computed, received-by}
+use Rattle.demands.proofs.Pairs.{fileA, siteA, rule-A, empty, plain, strange, took, plain-A, strange-A}
 
 -- ---- by a frame
 abbrev first : List ℕ
@@ -48,19 +51,23 @@ first = plain (1 ∷ 2 ∷ 3 ∷ [])
 
 accepts : received siteA first empty .answer .status ≡ 0
 unfolding computed
-accepts = refl
+accepts = ap (λ (x : Outcome). x .answer .status) plain-A
 
 pub no-refuser : (R : Receiver) → Promised R → RefusesAll R → ⊥
 no-refuser R h u = u siteA first empty (ap (λ (x : Outcome). x .answer .status) (h siteA first empty) ∙ accepts)
 
 -- two accepted frames with answers that differ
+shorter-A : received siteA (plain []) empty ≡ took siteA (plain []) empty 0 0 [] keep
+unfolding read computed
+shorter-A = received-by fileA rule-A (plain []) empty _ refl
+
 shorter : received siteA (plain []) empty .answer .status ≡ 0
 unfolding computed
-shorter = refl
+shorter = ap (λ (x : Outcome). x .answer .status) shorter-A
 
 lengths : (received siteA first empty .answer .private ≡ 3) × (received siteA (plain []) empty .answer .private ≡ 0)
 unfolding computed
-lengths = (refl, refl)
+lengths = (ap (λ (x : Outcome). x .answer .private) plain-A, ap (λ (x : Outcome). x .answer .private) shorter-A)
 
 pub no-one-success : (R : Receiver) → Promised R → OneSuccess R → ⊥
 no-one-success R h u =
@@ -74,7 +81,7 @@ no-one-success R h u =
 
 written : getD (received siteA first empty .out) 0 0 ≡ 1
 unfolding computed
-written = refl
+written = ap (λ (x : Outcome). getD (x .out) 0 0) plain-A
 
 pub no-silent : (R : Receiver) → Promised R → WritesNothing R → ⊥
 no-silent R h u =
@@ -84,7 +91,7 @@ no-silent R h u =
 -- the second frame is dropped by the filter
 then-drops : received (received siteA first empty .site) strange (received siteA first empty .out) .answer .status ≡ 6
 unfolding computed
-then-drops = refl
+then-drops = rw plain-A (ap (λ (x : Outcome). x .answer .status) strange-A)
 
 pub no-repeater : (R : Receiver) → Promised R → Repeats R → ⊥
 no-repeater R h u =
@@ -118,6 +125,14 @@ own-settle σ v b (Refused r) = tt
 own-settle σ v b Plain = (refl, refl)
 own-settle σ v b (Secure k j d) = own-admit v _ _ _ j d
 
+own-verdict : (σ : Store) (room : ℕ) (f : List ℕ) → Own (view (inner f)) (verdict σ room f)
+unfolding verdict
+own-verdict σ room f = by (leb 127 room)
+  where
+    by : (c : Bool) → Own (view (inner f)) (pick c (settle σ (view (inner f)) (inner f) (judged (σ .tables) f)) (refuse Room))
+    by true = own-settle σ (view (inner f)) (inner f) _
+    by false = tt
+
 -- of what is written, where the status is 0
 abbrev Fair : List ℕ → View → Outcome → Type 0
 Fair s v x =
@@ -137,11 +152,11 @@ fair-written s o v (accept a p (raise j d c)) w =
     λ e. (w .0, λ n. (j, d, w .1 .0, ap (λ (k : ℕ). raisedIn (raise j d k) s) (w .1 .1)))
 
 fair : (s f o : List ℕ) → Fair s (view (inner f)) (received s f o)
-unfolding received receivedValid verdict
+unfolding received receivedValid
 fair s f o = by (siteRule s)
   where
     by : (c : Bool) → Fair s (view (inner f)) (pick c (write s o (verdict (storeOf s) (length o) f)) (outcome (refusal Site) s o))
-    by true = fair-written s o (view (inner f)) _ (own-settle (storeOf s) (view (inner f)) (inner f) _)
+    by true = fair-written s o (view (inner f)) _ (own-verdict (storeOf s) (length o) f)
     by false = fair-refusal s o (view (inner f)) Site
 
 pub true-length : (R : Receiver) → Promised R → TrueLength R

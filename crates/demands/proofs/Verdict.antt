@@ -7,8 +7,7 @@ use mathlib.Core.List.{List, _++_}
 use lib.ListN.{getD}
 use borrow.Author.Tests.{eqb-true, ne-eqb, le-leb}
 use Rattle.meaning.specs.Frame.{levelOf, counterOf, View}
-use Rattle.meaning.specs.Site.{extendedAddress, Tables, Store, keyAt}
-use Rattle.meaning.specs.Steps.{noDevice}
+use Rattle.meaning.specs.Records.{extendedAddress, Tables, Store, keyAt, noDevice}
 use Rattle.meaning.specs.Cipher.{cipher}
 use Rattle.meaning.specs.Ccm.{nonceOf, Sealed}
 use Rattle.meaning.specs.Receive.{report, stored, timely, accept, opened, tagged, admit, settle, verdict}
@@ -112,5 +111,5 @@ module _ (σ : Store) (q : Request) (o p f : List ℕ) (r : Ranged q) (ot : Octe
       → verdict τ room (withFcs b) ≡ accept (reportOf σ q o p g) p (raiseOf (σ .own) g)
   unfolding verdict
   verdict-is τ room g k e z =
-      rw (F.inner-with b, F.view-is σ q o p r ot a (m .fits), F.judged-is σ q o p r ot a (m .fits) (τ .tables) room k, e)
+      rw (le-leb 127 room k, F.inner-with b, F.view-is σ q o p r ot a (m .fits), F.judged-is σ q o p r ot a (m .fits) (τ .tables), e)
       (settle-is τ (rw e at (level-known (τ .tables))) z)

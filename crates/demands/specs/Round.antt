@@ -12,9 +12,10 @@ use mathlib.Core.List.{List, []}
 use lib.ListN.{length, getD, take}
 use lib.Dec.{eqb}
 use Rattle.meaning.specs.Octets.{pick, part, beside}
-use Rattle.meaning.specs.Site.{extendedAddress, siteRule, settingsOf, Tables, tablesOf, Store, storeOf, keyAt}
+use Rattle.meaning.specs.Records.{extendedAddress, Tables, Store, keyAt, noDevice}
+use Rattle.meaning.specs.Site.{siteRule, settingsOf, tablesOf, storeOf}
 use Rattle.meaning.specs.Filter.{cause}
-use Rattle.meaning.specs.Steps.{peerOf, noDevice, keyRow, keyOf}
+use Rattle.meaning.specs.Steps.{peerOf, keyRow, keyOf}
 use Rattle.meaning.specs.Receive.{check, split, onSecurity, judged, Raise, keep, raise, stored, raisedIn, outcome, received}
 use Rattle.meaning.specs.Build.{fitted, headerBy, headOctets, auxOctets, built}
 use Rattle.meaning.specs.declared.Found.{Found}
@@ -63,12 +64,11 @@ unfoldable pub admission : Tables → Header → List ℕ → List ℕ → Judge
 admission t h x o =
     check (eqb (cause (t .settings) h) 0) Filtered (split (eqb (h .kind) 2) Plain (onSecurity t h x o))
 
--- neither 3, 4, 5 nor 7 is ever the answer to a built frame: with room for it, filter and policies decide
+-- neither 3, 4, 5 nor 7 is ever the answer to a built frame: filter and policies decide
 pub record Well-formed (s : List ℕ) (q : Request) (o p out : List ℕ) : Type 0 where
   pub least : 5 ≤ length (frameSent s q o p out)
   pub most : length (frameSent s q o p out) ≤ 127
-  pub decided : (t : Tables) (room : ℕ) → 127 ≤ room
-      → judged t room (frameSent s q o p out) ≡ admission t (headerBy (settingsOf s) q) (auxOctets q (storeOf s .own)) o
+  pub decided : (t : Tables) → judged t (frameSent s q o p out) ≡ admission t (headerBy (settingsOf s) q) (auxOctets q (storeOf s .own)) o
 
 -- key k and device d are the sender's
 pub record Same (σ τ : Store) (q : Request) (k j d : ℕ) : Type 0 where

@@ -1,5 +1,5 @@
 -- Demand 3, on the octets that two callers lend: what a receiver shows depends on no key octet and no private octet. Assumes nothing: these are definitions.
--- keysAt, keysLen   where the key octets of a site stand
+-- keysAt, keysLen   where the key octets of a site stand: the region of the keys
 -- AlikeSites        two sites that are equal outside them
 -- span, outside     how many of a frame's first octets stand outside private payload, tag and FCS
 -- tagSeen           the tag's verdict, where a frame comes so far
@@ -9,7 +9,7 @@
 -- Agree             each pair of outcomes of the two lists
 use Prim.Native.Nat.{ℕ, _+_, _*_, _-_, max}
 use mathlib.Core.Path.{_≡_}
-use mathlib.Core.Bool.{Bool}
+use mathlib.Core.Bool.{Bool, _&&_}
 use mathlib.Core.List.{List, [], _∷_}
 use mathlib.Core.Option.{Option, none, some}
 use lib.ListN.{length, getD, take, drop}
@@ -17,8 +17,8 @@ use lib.Dec.{leb, eqb}
 use Rattle.meaning.specs.Octets.{pick, part}
 use Rattle.meaning.specs.Frame.{counterOf, View, view, cutsOf, openEnd}
 use Rattle.meaning.specs.Fcs.{inner, fcsRight}
-use Rattle.meaning.specs.Site.{countOf, placeOf, siteRule, Store, storeOf, keyAt}
-use Rattle.meaning.specs.Steps.{noDevice}
+use Rattle.meaning.specs.Records.{keys, widthOf, limitOf, Store, keyAt, noDevice}
+use Rattle.meaning.specs.Site.{placeOf, siteRule, storeOf}
 use Rattle.meaning.specs.Receive.{judged, stored, timely, opened, Outcome, received}
 use Rattle.meaning.specs.declared.Judged.{Judged}
 use Rattle.meaning.specs.declared.Judged.the-variants.{Refused, Plain, Secure}
@@ -26,10 +26,10 @@ use Rattle.meaning.specs.declared.Judged.the-variants.{Refused, Plain, Secure}
 -- ---- sites
 -- a site that breaks a rule has no key octets
 unfoldable pub keysAt : List ℕ → ℕ
-keysAt s = pick (siteRule s) (placeOf s 3) (length s)
+keysAt s = pick (siteRule s) (placeOf keys) (length s)
 
 unfoldable pub keysLen : List ℕ → ℕ
-keysLen s = pick (siteRule s) (16 * countOf s 3) 0
+keysLen s = pick (siteRule s) (widthOf keys * limitOf keys) 0
 
 pub record AlikeSites (s t : List ℕ) : Type 0 where
   pub lengths : length s ≡ length t
@@ -48,7 +48,7 @@ span status f =
 unfoldable pub outside : List ℕ → List ℕ → List ℕ → ℕ
 outside s f o = span (received s f o .answer .status) f
 
--- a frame reaches its tag where a key and a device are found and the counter is timely
+-- a frame reaches its tag where site and room are right, a key and a device are found and the counter is timely
 unfoldable pub tagAt : Store → View → List ℕ → Judged → Option Bool
 tagAt σ v b (Refused r) = none
 tagAt σ v b Plain = none
@@ -58,7 +58,7 @@ tagAt σ v b (Secure k j d) =
 
 unfoldable pub tagSeen : List ℕ → List ℕ → List ℕ → Option Bool
 tagSeen s f o =
-    pick (siteRule s) (tagAt (storeOf s) (view (inner f)) (inner f) (judged (storeOf s .tables) (length o) f)) none
+    pick (siteRule s && leb 127 (length o)) (tagAt (storeOf s) (view (inner f)) (inner f) (judged (storeOf s .tables) f)) none
 
 -- frame f at site s with output o, and frame g at site t with output p
 pub record AlikeFrames (s t f g o p : List ℕ) : Type 0 where

@@ -1,4 +1,4 @@
--- The laws of a search in steps: of the handle search, and that the trials lead to `handleRow`. Assumes nothing.
+-- The laws of a search in steps: of the handle search, and that the trials lead to `handleRowBy`. Assumes nothing.
 use mathlib.Core.Path.{_≡_, refl, ap, sym, _∙_}
 use mathlib.Core.Bool.{Bool, true, false, _&&_}
 use mathlib.Core.List.{List}
@@ -6,8 +6,9 @@ use Prim.Native.Nat.{ℕ, zero, suc, _+_, _-_, _*_, _/_, _≤_, _<_}
 use native.Mathlib.Omega.{arith}
 use lib.ListN.{length, getD}
 use Rattle.meaning.specs.Octets.{pick, scan}
-use Rattle.meaning.specs.Site.{records}
-use Rattle.meaning.specs.Steps.{isPeer, noDevice, handleOf, handleRow}
+use Rattle.meaning.specs.Records.{handleAt, records, noDevice}
+use Rattle.meaning.specs.Steps.{isPeer}
+use Rattle.search.specs.Rows.{handleRowBy}
 use Rattle.meaning.specs.declared.Device.{Device}
 use Rattle.meaning.specs.declared.Found.{Found}
 use Rattle.meaning.specs.declared.Found.the-variants.{At, Nothing}
@@ -30,9 +31,9 @@ module _ {hs : List ℕ} {key from m i : ℕ} where
   pub one-more : {u : ℕ} → Further hs key from m i → i < m → u ≡ getD hs (2 * i) 0 → (u ≡ key → ⊥) → Further hs key from m (i + 1)
   one-more {u} f l d e = record { same = f .same ∙ step (isHandle hs key) (trial hs) over m i l ∙ rw (ne-by (getD hs (2 * i) 0) key u d e) }
 
-  pub this-one : {u : ℕ} (x : ℕ) → Further hs key from m i → i < m → u ≡ getD hs (2 * i) 0 → u ≡ key → x ≡ handleOf hs i
+  pub this-one : {u : ℕ} (x : ℕ) → Further hs key from m i → i < m → u ≡ getD hs (2 * i) 0 → u ≡ key → x ≡ handleAt hs i .device
       → _≡_ {A = Trial} (record { more = true; found = false; at = i; device = x }) (handleFrom hs key from)
-  unfolding handleOf
+  unfolding handleAt
   this-one {u} x f l d e x-is =
       ap (λ (y : ℕ). record { more = true; found = false; at = i; device = y }) x-is
       ∙ sym (f .same ∙ step (isHandle hs key) (trial hs) over m i l ∙ rw (eq-by (getD hs (2 * i) 0) key u d e))
@@ -46,7 +47,7 @@ no z = let w : _≡_ {A = ℕ} 0 1 = cc in omega arith
 both-of : (a b : Bool) → a ≡ true → (a && b) ≡ b
 both-of a b e = rw e
 
--- ---- the trials lead to `handleRow`
+-- ---- the trials lead to `handleRowBy`
 module _ (ds : List Device) (hs : List ℕ) (s : Sought) where
   abbrev Handle : ℕ → Bool
   Handle k = isHandle hs (s .key) k
@@ -61,7 +62,7 @@ module _ (ds : List Device) (hs : List ℕ) (s : Sought) where
   n = records 2 hs
 
   abbrev pub right : Found
-  right = handleRow hs ds (s .key) (s .peer)
+  right = handleRowBy hs ds (s .key) (s .peer)
 
   -- what is known of a trial: the handle at `at` is one of the key's, and those before it were not it; or the search is over, and the answer is right
   pub data Sound : Trial → Type 0 where
@@ -77,7 +78,7 @@ module _ (ds : List Device) (hs : List ℕ) (s : Sought) where
       (λ h. from-sound j (suc i) (omega arith) (same ∙ rw (and-left (Handle i) (Peer i) h)))
 
   pub start-sound : Sound (handleFrom hs (s .key) 0)
-  unfolding handleFrom handleRow handleOf
+  unfolding handleFrom handleRowBy
   start-sound = let m-is : n ≡ n - 0 = omega arith in from-sound (n - 0) 0 (omega arith) (ap (λ (m : ℕ). scan Right At Nothing m 0) m-is)
 
   -- how much is left to try: 0 where the search is over

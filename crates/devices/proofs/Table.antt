@@ -9,19 +9,18 @@ use lib.Seq.{getD-take, getD-set-same, getD-set-other, length-take-le}
 use lib.Dec.{ltb, eqb}
 use borrow.Author.Tests.{lt-ltb, le-ltb, ltb-true, ltb-false, eqb-true, eqb-false}
 use Rattle.meaning.specs.Octets.{tab}
-use Rattle.meaning.specs.Site.{records, deviceAt}
-use Rattle.meaning.specs.Steps.{noDevice}
+use Rattle.meaning.specs.Records.{records, deviceAt, noDevice}
 use Rattle.meaning.specs.declared.Device.{Device}
 use Rattle.meaning.proofs.Tabs.{length-tab, getD-tab, tab-of}
-use Rattle.devices.specs.Devices.{recordOf, devicesOf, devicesIn}
+use Rattle.devices.specs.Devices.{recordOf, devicesOf, devicesLent}
 
 pub length-devices : (s : List ℕ) → length (devicesOf s) ≡ 64
 unfolding devicesOf
 length-devices s = length-tab (recordOf s (records 17 s)) 64
 
 -- the table's own records
-pub devices-are : (s : List ℕ) → length s ≤ 1088 → devicesIn s ≡ tab (deviceAt s) (records 17 s)
-unfolding devicesIn devicesOf
+pub devices-are : (s : List ℕ) → length s ≤ 1088 → devicesLent s ≡ tab (deviceAt s) (records 17 s)
+unfolding devicesLent devicesOf
 devices-are s h =
     let m : ℕ = records 17 s in
     let all : List Device = tab (recordOf s m) 64 in

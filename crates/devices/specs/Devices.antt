@@ -1,5 +1,5 @@
 -- The search of device records through the handles of a key, in steps. Assumes nothing: these are definitions.
--- What is right is the meaning's `handleRow`. A handle is two octets: a key's number and a device's.
+-- What is right is the meaning's `handleRow`, here over the body of the handles (`handleRowBy`): a handle is two octets, a key's number and a device's.
 -- handleFrom   the trial of the key's first handle from a number on
 -- triedOf      the trial after one that was tried
 -- answerOf     the answer where the search is over
@@ -11,8 +11,9 @@ use mathlib.Core.List.{List}
 use lib.ListN.{getD, take}
 use lib.Dec.{ltb, eqb}
 use Rattle.meaning.specs.Octets.{pick, scan, tab}
-use Rattle.meaning.specs.Site.{records, deviceAt, siteRule, tablesOf}
-use Rattle.meaning.specs.Steps.{isPeer, noDevice, handleRow}
+use Rattle.meaning.specs.Records.{records, deviceAt, noDevice}
+use Rattle.meaning.specs.Site.{siteRule, tablesOf}
+use Rattle.meaning.specs.Steps.{isPeer, handleRow}
 use Rattle.meaning.specs.declared.Address.{Address}
 use Rattle.meaning.specs.declared.Device.{Device}
 use Rattle.meaning.specs.declared.Found.{Found}
@@ -51,8 +52,8 @@ unfoldable pub devicesOf : List ℕ → List Device
 devicesOf s = tab (recordOf s (records 17 s)) 64
 
 -- the table's own records alone
-unfoldable pub devicesIn : List ℕ → List Device
-devicesIn s = take (records 17 s) (devicesOf s)
+unfoldable pub devicesLent : List ℕ → List Device
+devicesLent s = take (records 17 s) (devicesOf s)
 
 -- nothing in a site that breaks a rule
 unfoldable pub foundAt : List ℕ → ℕ → Address → Found

@@ -7,10 +7,10 @@ use meaning::Found;
 ghost use mathlib.Core.Path.{_≡_};
 ghost use Prim.Native.Nat.{ℕ, _+_, _*_, _/_, _≤_, _<_};
 ghost use lib.ListN.{length, getD};
-ghost use Rattle.meaning.specs.Octets.{tab};
-ghost use Rattle.meaning.specs.Site.{records, deviceAt};
-ghost use Rattle.meaning.specs.Steps.{noDevice, handleRow};
-ghost use Rattle.devices.specs.Devices.{handleFrom, triedOf, answerOf, devicesOf, devicesIn, foundAt};
+ghost use Rattle.meaning.specs.Records.{records, noDevice, devicesIn, handlesIn};
+ghost use Rattle.meaning.specs.Steps.{handleRow};
+ghost use Rattle.search.specs.Rows.{handleRowBy};
+ghost use Rattle.devices.specs.Devices.{handleFrom, triedOf, answerOf, devicesOf, devicesLent, foundAt};
 
 // Whose record is sought, by which key.
 pub struct Sought {
@@ -88,7 +88,7 @@ pub fn device_at(devices: &[Device], i: usize) -> Device
 // The first handle of the key whose device is the peer: the records are tried in the order of the key's handles.
 pub fn find(devices: &[Device], handles: &[u8], s: Sought) -> Found
     requires { ⌜ ((j : ℕ) → j < records 2 (now handles) → getD (now handles) (2 * j + 1) 0 < length (now devices)) ⌝ }
-    ensures { λ r. ⌜ r ≡ handleRow (now (handles .entry)) (now (devices .entry)) (s .key) (s .peer) ⌝ }
+    ensures { λ r. ⌜ r ≡ handleRowBy (now (handles .entry)) (now (devices .entry)) (s .key) (s .peer) ⌝ }
 {
     let mut t = handle_from(handles, s.key, 0);
     while t.more {
@@ -123,7 +123,7 @@ pub fn decoded(table: &[u8]) -> [Device; 64]
 // The table's records are decoded, lent as a slice of structs, and tried.
 pub fn find_lent(table: &[u8], handles: &[u8], s: Sought) -> Found
     requires { ⌜ (length (now table) ≤ 1088) × ((j : ℕ) → j < records 2 (now handles) → getD (now handles) (2 * j + 1) 0 < records 17 (now table)) ⌝ }
-    ensures { λ r. ⌜ r ≡ handleRow (now (handles .entry)) (devicesIn (now (table .entry))) (s .key) (s .peer) ⌝ }
+    ensures { λ r. ⌜ r ≡ handleRowBy (now (handles .entry)) (devicesLent (now (table .entry))) (s .key) (s .peer) ⌝ }
 {
     let devices = decoded(table);
     let n = table.len() / 17;
@@ -133,7 +133,7 @@ pub fn find_lent(table: &[u8], handles: &[u8], s: Sought) -> Found
 // The first handle of the key whose device is the peer: the answer of search::handle_row, through records lent as structs.
 pub fn find_in(handles: &[u8], devices: &[u8], key: usize, p: Address) -> Found
     requires { ⌜ (length (now devices) ≤ 1088) × ((j : ℕ) → j < records 2 (now handles) → getD (now handles) (2 * j + 1) 0 < records 17 (now devices)) ⌝ }
-    ensures { λ r. ⌜ r ≡ handleRow (now (handles .entry)) (tab (deviceAt (now (devices .entry))) (records 17 (now (devices .entry)))) key p ⌝ }
+    ensures { λ r. ⌜ r ≡ handleRow (handlesIn (now (handles .entry))) (devicesIn (now (devices .entry))) key p ⌝ }
 {
     find_lent(devices, handles, Sought { key: key, peer: p })
 }
@@ -143,7 +143,12 @@ pub fn find_at(site: &[u8], key: usize, p: Address) -> Found
     ensures { λ r. ⌜ r ≡ foundAt (now (site .entry)) key p ⌝ }
 {
     if site::site_holds(site) {
-        return find_in(site::table(site, 6), site::table(site, 1), key, p);
+        return find_in(
+            site::table(site, records::HANDLES),
+            site::table(site, records::DEVICES),
+            key,
+            p,
+        );
     }
     Found::Nothing
 }

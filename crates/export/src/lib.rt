@@ -1,4 +1,4 @@
-// Receiving, building and the site's rules for programs in other languages, over octets alone. No function asks anything of its caller.
+// Loading, receiving, building and the site's rules for programs in other languages, over octets alone. No function asks anything of its caller.
 // Clients cite specs/Boundary.antt, and specs/Packed.antt for answers and requests in octets; include/wirdhalef.h is the manual.
 mod many;
 mod packed;
@@ -6,9 +6,18 @@ mod packed;
 ghost use mathlib.Core.Path.{_≡_};
 ghost use Rattle.meaning.proofs.Lengths.{Bounded};
 ghost use Rattle.meaning.specs.Site.{siteRule};
+ghost use Rattle.meaning.specs.Loading.{bridged, loaded};
 ghost use Rattle.meaning.specs.Build.{bit};
 ghost use Rattle.export.specs.Boundary.{exchange, receivedBy, openPlace, placeIn, delivery, builtBy, tally, receivedMany};
 use meaning::Cuts;
+
+// Loads a site file into a site: 0, or 1 where the file breaks a rule, or 2 where the site has not a site's length; then nothing changes.
+#[no_mangle]
+pub extern "C" fn wirdhalef_load(file: &[u8], site: &mut [u8]) -> u8
+    ensures { λ r. ⌜ bridged r (now (site .exit)) ≡ loaded (now (file .entry)) (now (site .entry)) ⌝ }
+{
+    load::load(file, site)
+}
 
 // 1 where the site keeps its rules, else 0; nothing changes.
 #[no_mangle]

@@ -4,7 +4,7 @@ use meaning::Header;
 ghost use mathlib.Core.Path.{_≡_};
 ghost use mathlib.Core.Bool.{not, _&&_};
 ghost use lib.Dec.{eqb};
-ghost use Rattle.meaning.specs.Site.{panId, shortAddress, extendedAddress, isCoordinator};
+ghost use Rattle.meaning.specs.Records.{panId, shortAddress, extendedAddress, isCoordinator};
 ghost use Rattle.meaning.specs.Filter.{strangePan, strangeShort, strangeExtended, strangeBeacon, strangeSource, cause};
 
 // macPANId.

@@ -1,8 +1,8 @@
 -- 'The log program': what it prints of its whole input. Assumes nothing: these are definitions.
--- Items, items     the frames of the octets after the site, and whether those end inside an item
+-- Items, items     the frames of the octets after the site file, and whether those end inside an item
 -- answers          the answers to the frames, one after the other, each with the site and the output that the one before left
 -- linesFrom        their lines
--- printedFrom      what is printed of octets after the site
+-- printedFrom      what is printed of octets after the site file
 -- printed          what is printed of an input
 use mathlib.Core.Bool.{Bool, true, false}
 use mathlib.Core.List.{List, [], _∷_, _++_}
@@ -10,6 +10,8 @@ use Prim.Native.Nat.{ℕ, zero, suc, _+_, _-_}
 use lib.Dec.{ltb}
 use lib.ListN.{length, take, drop, replicate}
 use Rattle.meaning.specs.Octets.{pick, leAt, part}
+use Rattle.meaning.specs.File.{fileMost}
+use Rattle.meaning.specs.Loading.{siteOf}
 use Rattle.meaning.specs.Receive.{received}
 use Rattle.meaning.specs.declared.Received.{Received}
 use Rattle.lines.specs.Text.{heading, cutLine, siteLine, lineOf}
@@ -54,13 +56,13 @@ unfoldable pub printedFrom : ℕ → List ℕ → List ℕ → List ℕ → List
 printedFrom n s o l = linesFrom n (answers s o (items l .frames)) ++ ending (items l .cut)
 
 -- ---- the whole
--- after a site of n octets; the output starts as 127 zeros
+-- after a site file of n octets, which is loaded; the output starts as 127 zeros
 unfoldable pub printedWith : ℕ → List ℕ → List ℕ
-printedWith n i = printedFrom 1 (part 2 n i) (replicate 127 0) (drop (2 + n) i)
+printedWith n i = printedFrom 1 (siteOf (part 2 n i)) (replicate 127 0) (drop (2 + n) i)
 
 -- of an input whose first two octets say n
 unfoldable pub printedSized : ℕ → List ℕ → List ℕ
-printedSized n i = pick (ltb 3613 n) siteLine (pick (ltb (length i - 2) n) cutLine (printedWith n i))
+printedSized n i = pick (ltb fileMost n) siteLine (pick (ltb (length i - 2) n) cutLine (printedWith n i))
 
 unfoldable pub printed : List ℕ → List ℕ
 printed i = heading ++ pick (ltb (length i) 2) cutLine (printedSized (leAt 2 i 0) i)

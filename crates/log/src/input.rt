@@ -1,9 +1,10 @@
-// Reads the input by buffers, and says how it begins.
+// Reads the input by buffers, says how it begins, and loads its site.
 use libc::STDIN_FILENO;
 ghost use mathlib.Core.Path.{_≡_};
 ghost use Prim.Native.Nat.{_≤_};
 ghost use lib.ListN.{length, take};
-ghost use Rattle.log.specs.Opening.{openingOf};
+ghost use Rattle.meaning.specs.Loading.{emptySite};
+ghost use Rattle.log.specs.Opening.{openingOf, Opened};
 ghost use Rattle.log.specs.Buffers.{Fed};
 
 // Where the octets at hand stand in the input buffer.
@@ -12,11 +13,19 @@ pub struct Place {
     pub have: usize,
 }
 
-// How an input begins: it is cut, or its site is too long, or its site has so many octets.
+// How an input begins: it is cut, or its site file is too long, or that has so many octets.
 pub enum Opening {
     Cut,
     Long,
     Site(usize),
+}
+
+// Loads a site file into zeros, and tells whether the file keeps its rules: then the site does, and else the zeros stay, which are no site.
+pub fn open_site(file: &[u8], site: &mut [u8]) -> bool
+    requires { ⌜ now site ≡ emptySite ⌝ }
+    ensures { λ r. ⌜ Opened (now (file .entry)) r (now (site .exit)) ⌝ }
+{
+    load::load(file, site) == 0
 }
 
 // Moves the octets at hand to the front, and reads more behind them, until the buffer is full or the input ends.
@@ -60,7 +69,7 @@ pub fn beginning(buf: &[u8], have: usize) -> Opening
         return Opening::Cut;
     }
     let n = octets::number16(buf, 0) as usize;
-    if 3613 < n {
+    if file::FILE_MOST < n {
         return Opening::Long;
     }
     if have - 2 < n {

@@ -1,4 +1,4 @@
-// The log program: reads a site and frames from standard input, and prints a line for each frame.
+// The log program: reads a site file and frames from standard input, loads the file, and prints a line for each frame.
 // `printed` of the lines' specs/Log.antt says all that it prints. Reading and writing go by 65,536 octets;
 // between a read and a write stands one call of `batch`, whose promise fixes every octet that is written.
 mod frames;
@@ -9,20 +9,22 @@ use frames::finish;
 use input::Opening;
 use input::beginning;
 use input::more;
+use input::open_site;
 use libc::STDIN_FILENO;
 use libc::STDOUT_FILENO;
+ghost use mathlib.Core.Path.{_≡_};
 ghost use Prim.Native.Nat.{_≤_};
 ghost use lib.ListN.{length};
+ghost use Rattle.meaning.specs.Site.{siteRule};
 
-// Prints the lines of the frames after the site, to the end of the input. The site is checked once.
-fn run(site: &mut [u8], buf: &mut [u8], from: usize, to: usize, text: &mut [u8])
-    requires { ⌜ (from ≤ to) × (to ≤ length (now buf)) × (80 ≤ length (now text)) ⌝ }
+// Prints the lines of the frames after the site file, to the end of the input. `ok` says whether the site keeps its rules.
+fn run(ok: bool, site: &mut [u8], buf: &mut [u8], from: usize, to: usize, text: &mut [u8])
+    requires { ⌜ (ok ≡ siteRule (now site)) × ((from ≤ to) × (to ≤ length (now buf)) × (80 ≤ length (now text))) ⌝ }
 {
     let sums = fcs::table();
     let sbox = aes::sbox_table();
     let names = lines::name_table();
     let mut out = [0u8; 127];
-    let ok = site::site_holds(site);
     let mut at = from;
     let mut have = to;
     let mut number: u64 = 1;
@@ -70,9 +72,9 @@ fn start(buf: &mut [u8], have: usize, text: &mut [u8])
         }
         Opening::Site(n) => {
             io::write_all(STDOUT_FILENO, &text[..h]);
-            let mut space = [0u8; 3613];
-            octets::copy_in(&mut space, 0, &buf[2..2 + n]);
-            run(&mut space[..n], buf, 2 + n, have, text);
+            let mut site = [0u8; site::SITE_LEN];
+            let ok = open_site(&buf[2..2 + n], &mut site);
+            run(ok, &mut site, buf, 2 + n, have, text);
         }
     }
 }

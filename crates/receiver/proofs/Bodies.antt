@@ -19,10 +19,11 @@ use Rattle.meaning.specs.Frame.{
   pendingRight,
   bodied,
 }
-use Rattle.meaning.specs.Site.{settingsOf, Tables, tablesOf}
+use Rattle.meaning.specs.Records.{Tables}
+use Rattle.meaning.specs.Site.{settingsOf, tablesOf}
 use Rattle.meaning.specs.Filter.{cause}
 use Rattle.meaning.specs.Receive.{check, split, onSecurity, onParts, onView, judge, judged}
-use Rattle.meaning.specs.declared.Refusal.the-variants.{Room, Length, Fcs, Malformed, Filtered, UnsupportedLegacy}
+use Rattle.meaning.specs.declared.Refusal.the-variants.{Length, Fcs, Malformed, Filtered, UnsupportedLegacy}
 use Rattle.meaning.specs.declared.Cuts.{Cuts}
 use Rattle.meaning.specs.declared.Header.{Header}
 use Rattle.meaning.specs.declared.Judged.{Judged}
@@ -120,25 +121,21 @@ module _ (s b : List ℕ) (c : Cuts) (hs : List ℕ) (h : Header) (right : Bool)
     unfolding check split
     goes-on z q k m = by-view s b st c hs h right n z e a g r d f (rw (p, eq-eqb n 0 q, ne-eqb (h .kind) 2 k) m)
 
--- ---- 2, 3, 4
-module _ (t : Tables) (room : ℕ) (f : List ℕ) where
-  pub no-room : room < 127 → Refused Room ≡ judged t room f
+-- ---- 3, 4
+module _ (t : Tables) (f : List ℕ) where
+  pub too-short : length f < 5 → Refused Length ≡ judged t f
   unfolding judged judge check
-  no-room h = rw (lt-leb 127 room h)
+  too-short k = rw (lt-leb 5 (length f) k)
 
-  pub too-short : 127 ≤ room → length f < 5 → Refused Length ≡ judged t room f
+  pub too-long : 5 ≤ length f → 127 < length f → Refused Length ≡ judged t f
   unfolding judged judge check
-  too-short h k = rw (le-leb 127 room h, lt-leb 5 (length f) k)
+  too-long k m = rw (le-leb 5 (length f) k, lt-leb (length f) 127 m)
 
-  pub too-long : 127 ≤ room → 5 ≤ length f → 127 < length f → Refused Length ≡ judged t room f
-  unfolding judged judge check
-  too-long h k m = rw (le-leb 127 room h, le-leb 5 (length f) k, lt-leb (length f) 127 m)
-
-  module _ (right : Bool) (e : right ≡ fcsRight f) (h : 127 ≤ room) (k : 5 ≤ length f) (m : length f ≤ 127) where
-    pub fcs-wrong : right ≡ false → Refused Fcs ≡ judged t room f
+  module _ (right : Bool) (e : right ≡ fcsRight f) (k : 5 ≤ length f) (m : length f ≤ 127) where
+    pub fcs-wrong : right ≡ false → Refused Fcs ≡ judged t f
     unfolding judged judge check
-    fcs-wrong p = rw (le-leb 127 room h, le-leb 5 (length f) k, le-leb (length f) 127 m, ← e, p)
+    fcs-wrong p = rw (le-leb 5 (length f) k, le-leb (length f) 127 m, ← e, p)
 
-    pub body-on : (b : List ℕ) (z : Judged) → right ≡ true → b ≡ inner f → z ≡ onView t (view b) → z ≡ judged t room f
+    pub body-on : (b : List ℕ) (z : Judged) → right ≡ true → b ≡ inner f → z ≡ onView t (view b) → z ≡ judged t f
     unfolding judged judge check
-    body-on b z p q g = rw (le-leb 127 room h, le-leb 5 (length f) k, le-leb (length f) 127 m, ← e, p) (g ∙ rw q)
+    body-on b z p q g = rw (le-leb 5 (length f) k, le-leb (length f) 127 m, ← e, p) (g ∙ rw q)

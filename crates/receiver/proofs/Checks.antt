@@ -2,28 +2,15 @@
 use mathlib.Core.Path.{_≡_, refl, ap, sym, _∙_}
 use mathlib.Core.Bool.{Bool, true, false, _&&_, _||_, not}
 use mathlib.Core.List.{List}
-use Prim.Native.Nat.{ℕ, _+_, _*_, _/_, _≤_, _<_}
+use Prim.Native.Nat.{ℕ, _≤_, _<_}
 use native.Mathlib.Omega.{arith}
 use lib.ListN.{length, getD, drop}
 use lib.Dec.{eqb}
 use borrow.Author.Tests.{eq-eqb, ne-eqb}
-use Rattle.meaning.specs.Octets.{tab}
 use Rattle.meaning.specs.Frame.{levelOf, modeOf, keyIndexOf}
-use Rattle.meaning.specs.Site.{widthOf, countOf, body, records, siteRule, settingsOf, deviceAt, Tables, tablesOf, securityOn}
-use Rattle.meaning.specs.Steps.{
-  levelRow,
-  passes,
-  overrides,
-  peerOf,
-  noDevice,
-  deviceRow,
-  keySource,
-  keyRow,
-  keyOf,
-  usageRow,
-  handleOf,
-  handleRow,
-}
+use Rattle.meaning.specs.Records.{devicesIn, handleAt, devices, handles, handlesIn, levels, lookups, usages, widthOf, records, deviceAt, Tables, securityOn, noDevice}
+use Rattle.meaning.specs.Site.{countOf, body, siteRule, settingsOf, tablesOf}
+use Rattle.meaning.specs.Steps.{levelRow, passes, overrides, peerOf, deviceRow, keySource, keyRow, keyOf, usageRow, handleOf, handleRow}
 use Rattle.meaning.specs.Receive.{check, try, split, commandOf, onDevice, onUse, onKey, onExempt, onPolicy, onLevel, onSecurity}
 use Rattle.meaning.specs.declared.Found.{Found}
 use Rattle.meaning.specs.declared.Found.the-variants.{At}
@@ -42,28 +29,30 @@ use Rattle.meaning.specs.declared.Judged.{Judged}
 use Rattle.meaning.specs.declared.Judged.the-variants.{Refused, Plain, Secure}
 use Rattle.meaning.proofs.Tests.{and-right}
 use Rattle.meaning.proofs.Lengths.{level-bound}
-use Rattle.meaning.proofs.Tabs.{length-tab}
-use Rattle.meaning.proofs.Sites.{device-of, records-is, seventeen, devices-are}
-use Rattle.meaning.proofs.Rows.{level-below, device-below}
+use Rattle.meaning.proofs.Tabs.{getD-tab}
+use Rattle.meaning.proofs.Sites.{records-is}
+use Rattle.meaning.proofs.Rows.{level-below}
 use Rattle.search.specs.Rows.{keyRowBy, implicitRow}
-use Rattle.search.proofs.Laws.{keySource-length}
+use Rattle.search.proofs.Laws.{keySource-length, device-below-tab, handle-of, handle-below-by}
 
 -- ---- 13
 pub by-handles : (s st : List ℕ) (h : Header) (key : ℕ) (p : Address) (hs ds : List ℕ) (u w : Found) (z : Judged)
-    → siteRule s ≡ true → st ≡ settingsOf s → p ≡ peerOf st (h .source) → hs ≡ body s 6 → ds ≡ body s 1
-    → u ≡ handleRow hs (tab (deviceAt ds) (records 17 ds)) key p → u ≡ w
-    → z ≡ try w UnavailableDevice (λ j. Secure key j (handleOf hs j)) → z ≡ onDevice (tablesOf s) h key
+    → st ≡ settingsOf s → p ≡ peerOf st (h .source) → hs ≡ body s handles → ds ≡ body s devices
+    → u ≡ handleRow (handlesIn hs) (devicesIn ds) key p → u ≡ w
+    → z ≡ try w UnavailableDevice (λ j. Secure key j (handleOf (handlesIn hs) j)) → z ≡ onDevice (tablesOf s) h key
 unfolding onDevice tablesOf
-by-handles s st h key p hs ds u w z rule a b c d e f g =
-    g ∙ ap (λ (x : Found). try x UnavailableDevice (λ j. Secure key j (handleOf hs j))) (sym f ∙ e) ∙ rw (c, d, devices-are s rule, b, a)
+by-handles s st h key p hs ds u w z a b c d e f g =
+    g ∙ ap (λ (x : Found). try x UnavailableDevice (λ j. Secure key j (handleOf (handlesIn hs) j))) (sym f ∙ e) ∙ rw (c, d, b, a)
 
-pub at-handle : (hs : List ℕ) (key j d : ℕ) → d ≡ handleOf hs j → Secure key j d ≡ try (At j) UnavailableDevice (λ i. Secure key i (handleOf hs i))
+pub at-handle : (hs : List ℕ) (ds : List Device) (key : ℕ) (p : Address) (u : Found) (j d : ℕ)
+    → u ≡ handleRow (handlesIn hs) ds key p → u ≡ At j → d ≡ handleAt hs j .device
+    → Secure key j d ≡ try (At j) UnavailableDevice (λ i. Secure key i (handleOf (handlesIn hs) i))
 unfolding try
-at-handle hs key j d e = rw e
+at-handle hs ds key p u j d f g e = rw (e, handle-of hs j (handle-below-by hs ds key p u j f g))
 
 -- ---- 12
 pub by-usage : (s : List ℕ) (h : Header) (os : List ℕ) (key command : ℕ) (us : List ℕ) (u w : Found) (z : Judged)
-    → us ≡ body s 5 → command ≡ getD os 0 0 → u ≡ usageRow us key (h .kind) command → u ≡ w
+    → us ≡ body s usages → command ≡ getD os 0 0 → u ≡ usageRow us key (h .kind) command → u ≡ w
     → z ≡ try w ImproperKeyType (λ i. onDevice (tablesOf s) h key) → z ≡ onUse (tablesOf s) h os key
 unfolding onUse tablesOf commandOf
 by-usage s h os key command us u w z a b e f g =
@@ -76,7 +65,7 @@ at-usage t h key i z e = e
 -- ---- 11
 pub by-lookup : (s st : List ℕ) (h : Header) (xs os : List ℕ) (p : Address) (mode index : ℕ) (source ls : List ℕ) (u w : Found) (z : Judged)
     → st ≡ settingsOf s → p ≡ peerOf st (h .source) → mode ≡ modeOf xs → index ≡ keyIndexOf xs
-    → source ≡ keySource st (drop 5 xs) mode → ls ≡ body s 4
+    → source ≡ keySource st (drop 5 xs) mode → ls ≡ body s lookups
     → u ≡ keyRowBy ls mode index source p → u ≡ w
     → z ≡ try w UnavailableKey (λ i. onUse (tablesOf s) h os (keyOf ls i)) → z ≡ onKey (tablesOf s) h xs os
 unfolding onKey tablesOf keyRow keyRowBy implicitRow
@@ -90,31 +79,28 @@ at-lookup t h os ls i key z k e = e ∙ rw k
 
 -- ---- level 0 with override
 pub by-devices : (s st : List ℕ) (h : Header) (p : Address) (ds : List ℕ) (u w : Found) (z : Judged)
-    → siteRule s ≡ true → st ≡ settingsOf s → p ≡ peerOf st (h .source) → ds ≡ body s 1
-    → u ≡ deviceRow (tab (deviceAt ds) (records 17 ds)) p → u ≡ w
+    → st ≡ settingsOf s → p ≡ peerOf st (h .source) → ds ≡ body s devices → u ≡ deviceRow (devicesIn ds) p → u ≡ w
     → z ≡ try w UnavailableDevice (λ d. check (eqb (getD (tablesOf s .devices) d noDevice .exempt) 1) ImproperSecurityLevel Plain)
     → z ≡ onExempt (tablesOf s) h
 unfolding onExempt tablesOf
-by-devices s st h p ds u w z rule a b d e f g =
+by-devices s st h p ds u w z a b d e f g =
     g
     ∙ ap (λ (x : Found). try x UnavailableDevice (λ d. check (eqb (getD (tablesOf s .devices) d noDevice .exempt) 1) ImproperSecurityLevel Plain)) (sym f ∙ e)
-    ∙ rw (d, devices-are s rule, b, a)
+    ∙ rw (d, b, a)
 
 -- the device found, by the answer b of its exempt test
 pub at-device : (s ds : List ℕ) (p : Address) (u : Found) (d : ℕ) (b : Bool) (z : Judged)
-    → siteRule s ≡ true → ds ≡ body s 1 → u ≡ deviceRow (tab (deviceAt ds) (records 17 ds)) p → u ≡ At d → b ≡ eqb (deviceAt ds d .exempt) 1
+    → ds ≡ body s devices → u ≡ deviceRow (devicesIn ds) p → u ≡ At d → b ≡ eqb (deviceAt ds d .exempt) 1
     → z ≡ check b ImproperSecurityLevel Plain
     → z ≡ try (At d) UnavailableDevice (λ d. check (eqb (getD (tablesOf s .devices) d noDevice .exempt) 1) ImproperSecurityLevel Plain)
-unfolding try
-at-device s ds p u d b z rule a e f t g =
-    let n : records 17 (body s 1) ≡ countOf s 1 = seventeen s rule in
-    let l : d < length (tab (deviceAt (body s 1)) (records 17 (body s 1))) = device-below _ p u d (rw a at e) f in
-    let m : d < countOf s 1 = rw (length-tab, n) at l in
-    g ∙ rw (t, a, device-of s d m)
+unfolding try tablesOf
+at-device s ds p u d b z a e f t g =
+    let l : d < records 17 (body s devices) = device-below-tab (body s devices) (records 17 (body s devices)) p u d (rw a at e) f in
+    g ∙ rw (t, a, getD-tab (deviceAt (body s devices)) noDevice (records 17 (body s devices)) d l)
 
 -- ---- 10
 pub by-policy : (s : List ℕ) (h : Header) (xs os : List ℕ) (i : ℕ) (ls : List ℕ) (l : ℕ) (b : Bool) (z : Judged)
-    → ls ≡ body s 2 → l ≡ levelOf xs → b ≡ passes ls i l
+    → ls ≡ body s levels → l ≡ levelOf xs → b ≡ passes ls i l
     → z ≡ split b (split (eqb l 0) Plain (onKey (tablesOf s) h xs os)) (check (eqb l 0 && overrides ls i) ImproperSecurityLevel (onExempt (tablesOf s) h))
     → z ≡ onPolicy (tablesOf s) h xs os i
 unfolding onPolicy tablesOf
@@ -122,7 +108,7 @@ by-policy s h xs os i ls l b z a e f g = g ∙ rw (f, a, e)
 
 -- ---- 9
 pub by-level : (s : List ℕ) (h : Header) (xs os ls : List ℕ) (command : ℕ) (u w : Found) (z : Judged)
-    → ls ≡ body s 2 → command ≡ getD os 0 0 → u ≡ levelRow ls (h .kind) command → u ≡ w
+    → ls ≡ body s levels → command ≡ getD os 0 0 → u ≡ levelRow ls (h .kind) command → u ≡ w
     → z ≡ try w UnavailableSecurityLevel (λ i. onPolicy (tablesOf s) h xs os i) → z ≡ onLevel (tablesOf s) h xs os
 unfolding onLevel tablesOf commandOf
 by-level s h xs os ls command u w z a b e f g =
@@ -134,11 +120,11 @@ unfolding try
 at-level t h xs os i z e = e
 
 -- the level record found lies in its table
-pub level-in : (s ls : List ℕ) (kind command i : ℕ) (u : Found) → siteRule s ≡ true → ls ≡ body s 2 → u ≡ levelRow ls kind command → u ≡ At i → i < countOf s 2
+pub level-in : (s ls : List ℕ) (kind command i : ℕ) (u : Found) → siteRule s ≡ true → ls ≡ body s levels → u ≡ levelRow ls kind command → u ≡ At i → i < countOf s levels
 unfolding widthOf
 level-in s ls kind command i u rule a e f =
-    let n : records 5 (body s 2) ≡ countOf s 2 = records-is s rule 2 (omega arith) (omega arith) in
-    rw n at (level-below (body s 2) kind command u i (rw a at e) f)
+    let n : records 5 (body s levels) ≡ countOf s levels = records-is s rule levels (omega arith) in
+    rw n at (level-below (body s levels) kind command u i (rw a at e) f)
 
 -- ---- 8
 pub by-security : (s st : List ℕ) (h : Header) (xs os : List ℕ) (l : ℕ) (on : Bool) (z : Judged)
@@ -162,32 +148,33 @@ off-exempt ds d x e h = rw (ne-eqb (deviceAt ds d .exempt) 1 (rw e at h))
 
 -- ---- the same where the search found something
 pub found-handle : (s st : List ℕ) (h : Header) (key : ℕ) (p : Address) (hs ds : List ℕ) (u : Found) (j d : ℕ)
-    → siteRule s ≡ true → st ≡ settingsOf s → p ≡ peerOf st (h .source) → hs ≡ body s 6 → ds ≡ body s 1
-    → u ≡ handleRow hs (tab (deviceAt ds) (records 17 ds)) key p → u ≡ At j → d ≡ handleOf hs j → Secure key j d ≡ onDevice (tablesOf s) h key
-found-handle s st h key p hs ds u j d rule a b c e f g i = by-handles s st h key p hs ds u (At j) _ rule a b c e f g (at-handle hs key j d i)
+    → st ≡ settingsOf s → p ≡ peerOf st (h .source) → hs ≡ body s handles → ds ≡ body s devices
+    → u ≡ handleRow (handlesIn hs) (devicesIn ds) key p → u ≡ At j → d ≡ handleAt hs j .device → Secure key j d ≡ onDevice (tablesOf s) h key
+found-handle s st h key p hs ds u j d a b c e f g i =
+    by-handles s st h key p hs ds u (At j) _ a b c e f g (at-handle hs (devicesIn ds) key p u j d f g i)
 
 pub found-usage : (s : List ℕ) (h : Header) (os : List ℕ) (key command : ℕ) (us : List ℕ) (u : Found) (i : ℕ) (z : Judged)
-    → us ≡ body s 5 → command ≡ getD os 0 0 → u ≡ usageRow us key (h .kind) command → u ≡ At i
+    → us ≡ body s usages → command ≡ getD os 0 0 → u ≡ usageRow us key (h .kind) command → u ≡ At i
     → z ≡ onDevice (tablesOf s) h key → z ≡ onUse (tablesOf s) h os key
 found-usage s h os key command us u i z a b e f g = by-usage s h os key command us u (At i) z a b e f (at-usage (tablesOf s) h key i z g)
 
 pub found-lookup : (s st : List ℕ) (h : Header) (xs os : List ℕ) (p : Address) (mode index : ℕ) (source ls : List ℕ) (u : Found) (i key : ℕ) (z : Judged)
     → st ≡ settingsOf s → p ≡ peerOf st (h .source) → mode ≡ modeOf xs → index ≡ keyIndexOf xs
-    → source ≡ keySource st (drop 5 xs) mode → ls ≡ body s 4
+    → source ≡ keySource st (drop 5 xs) mode → ls ≡ body s lookups
     → u ≡ keyRowBy ls mode index source p → u ≡ At i → key ≡ keyOf ls i → z ≡ onUse (tablesOf s) h os key → z ≡ onKey (tablesOf s) h xs os
 found-lookup s st h xs os p mode index source ls u i key z a b m n d c e f g k =
     by-lookup s st h xs os p mode index source ls u (At i) z a b m n d c e f (at-lookup (tablesOf s) h os ls i key z g k)
 
 pub found-level : (s : List ℕ) (h : Header) (xs os ls : List ℕ) (command : ℕ) (u : Found) (i : ℕ) (z : Judged)
-    → ls ≡ body s 2 → command ≡ getD os 0 0 → u ≡ levelRow ls (h .kind) command → u ≡ At i
+    → ls ≡ body s levels → command ≡ getD os 0 0 → u ≡ levelRow ls (h .kind) command → u ≡ At i
     → z ≡ onPolicy (tablesOf s) h xs os i → z ≡ onLevel (tablesOf s) h xs os
 found-level s h xs os ls command u i z a b e f g = by-level s h xs os ls command u (At i) z a b e f (at-level (tablesOf s) h xs os i z g)
 
 module _ (s st : List ℕ) (h : Header) (p : Address) (ds : List ℕ) (u : Found) (d : ℕ) (x : Device)
-    (rule : siteRule s ≡ true) (a : st ≡ settingsOf s) (b : p ≡ peerOf st (h .source)) (c : ds ≡ body s 1)
-    (e : u ≡ deviceRow (tab (deviceAt ds) (records 17 ds)) p) (f : u ≡ At d) (g : x ≡ deviceAt ds d) where
+    (a : st ≡ settingsOf s) (b : p ≡ peerOf st (h .source)) (c : ds ≡ body s devices)
+    (e : u ≡ deviceRow (devicesIn ds) p) (f : u ≡ At d) (g : x ≡ deviceAt ds d) where
   found-by : (z : Judged) → z ≡ check (eqb (deviceAt ds d .exempt) 1) ImproperSecurityLevel Plain → z ≡ onExempt (tablesOf s) h
-  found-by z k = by-devices s st h p ds u (At d) z rule a b c e f (at-device s ds p u d _ z rule c e f refl k)
+  found-by z k = by-devices s st h p ds u (At d) z a b c e f (at-device s ds p u d _ z c e f refl k)
 
   pub found-exempt : x .exempt ≡ 1 → Plain ≡ onExempt (tablesOf s) h
   found-exempt k = found-by Plain (on-exempt ds d x g k)
@@ -199,17 +186,17 @@ module _ (s st : List ℕ) (h : Header) (p : Address) (ds : List ℕ) (u : Found
 pub source-short : (st given source : List ℕ) (mode : ℕ) → source ≡ keySource st given mode → length source ≤ 8
 source-short st given source mode e = rw e (keySource-length st given mode)
 
-pub row-in : (s ls : List ℕ) (i : ℕ) → siteRule s ≡ true → i < countOf s 2 → ls ≡ body s 2 → i < records 5 ls
+pub row-in : (s ls : List ℕ) (i : ℕ) → siteRule s ≡ true → i < countOf s levels → ls ≡ body s levels → i < records 5 ls
 unfolding widthOf
 row-in s ls i rule h a =
-    let n : records 5 (body s 2) ≡ countOf s 2 = records-is s rule 2 (omega arith) (omega arith) in
+    let n : records 5 (body s levels) ≡ countOf s levels = records-is s rule levels (omega arith) in
     rw (a, n) h
 
 pub level-lt : (xs : List ℕ) (l : ℕ) → l ≡ levelOf xs → l < 8
 level-lt xs l e = rw e (level-bound xs)
 
 -- ---- 10, by the tests on the way
-module _ (s : List ℕ) (h : Header) (xs os : List ℕ) (i : ℕ) (ls : List ℕ) (l : ℕ) (b : Bool) (a : ls ≡ body s 2) (e : l ≡ levelOf xs) (f : b ≡ passes ls i l) where
+module _ (s : List ℕ) (h : Header) (xs os : List ℕ) (i : ℕ) (ls : List ℕ) (l : ℕ) (b : Bool) (a : ls ≡ body s levels) (e : l ≡ levelOf xs) (f : b ≡ passes ls i l) where
   pub pass-plain : b ≡ true → l ≡ 0 → Plain ≡ onPolicy (tablesOf s) h xs os i
   unfolding split
   pass-plain p q = by-policy s h xs os i ls l b _ a e f (rw (p, eq-eqb l 0 q))

@@ -25,12 +25,12 @@ use Rattle.meaning.specs.Frame.{
   openEnd,
   privateLen,
 }
-use Rattle.meaning.specs.Site.{widthOf, limitOf, countOf, body, siteRule, counterAt, keyAt, storeOf, tablesOf}
-use Rattle.meaning.specs.Steps.{noDevice, keyOf, handleOf}
+use Rattle.meaning.specs.Records.{devices, keys, limitOf, counterAt, keyAt, noDevice}
+use Rattle.meaning.specs.Site.{countOf, body, siteRule, storeOf, tablesOf}
 use Rattle.meaning.specs.Receive.{refusal, report, raise, stored, raisedIn, timely, privateOf, opened, tagged, admit, settle, judged, verdict, Outcome, outcome, write, receivedValid, received}
 use Rattle.meaning.specs.Room.{Fits}
 use Rattle.meaning.specs.declared.Refusal.{Refusal}
-use Rattle.meaning.specs.declared.Refusal.the-variants.{Site, CounterError, SecurityError}
+use Rattle.meaning.specs.declared.Refusal.the-variants.{Site, Room, CounterError, SecurityError}
 use Rattle.meaning.specs.declared.Cuts.{Cuts}
 use Rattle.meaning.specs.declared.Device.{Device}
 use Rattle.meaning.specs.declared.Header.{Header}
@@ -41,7 +41,7 @@ use Rattle.meaning.proofs.Tests.{and-right}
 use Rattle.meaning.proofs.Lengths.{no-tag, bounded}
 use Rattle.meaning.proofs.Stores.{sets-beside, take-beside}
 use Rattle.meaning.proofs.Ccm.{length-text}
-use Rattle.meaning.proofs.Sites.{rule-limit, rule-lookups, rule-handles, device-of, counter-of, records-is}
+use Rattle.meaning.proofs.Sites.{rule-limit, rule-lookups, rule-handles, device-of, counter-of}
 use Rattle.meaning.proofs.Ways.{secure-fits}
 use Rattle.receiver.specs.Parts.{keyMode, Plainly, Unsecured, keyOfSite, extendedOf, committed, unlocked, settled}
 use Rattle.receiver.proofs.Bodies.{header-is, view-aux, view-cuts, view-size}
@@ -90,50 +90,50 @@ unfolding privateLen
 plain-len b z = rw (z, no-tag, view-cuts b, view-size b) (omega arith)
 
 -- the private payload goes into the output
-pub plain-room : (f o b : List ℕ) (n : ℕ) (p : List ℕ) → Fits (length o) f → b ≡ inner f → p ≡ part n (length b - n) b → 0 + length p ≤ length o
-plain-room f o b n p fits e q =
-    rw q (simp (length-take, length-drop) (omega (arith, fits .room-is, fits .most, ap length e, length-inner f)))
+pub plain-room : (f o b : List ℕ) (n : ℕ) (p : List ℕ) → 127 ≤ length o → Fits f → b ≡ inner f → p ≡ part n (length b - n) b → 0 + length p ≤ length o
+plain-room f o b n p room fits e q =
+    rw q (simp (length-take, length-drop) (omega (arith, fits .most, ap length e, length-inner f)))
 
 -- what `accepted` asks
-pub plain-body : (f o b : List ℕ) → Fits (length o) f → b ≡ inner f → openEnd (cutsOf b) + tagLen (levelOf (view b .aux)) ≤ length b
-plain-body f o b fits e = rw e (fits .body)
+pub plain-body : (f b : List ℕ) → Fits f → b ≡ inner f → openEnd (cutsOf b) + tagLen (levelOf (view b .aux)) ≤ length b
+plain-body f b fits e = rw e (fits .body)
 
 pub by-plain : (f o b : List ℕ) (c : Cuts) (n : ℕ) (p : List ℕ) (r : Received) (o′ : List ℕ)
-    → Fits (length o) f → levelOf (view (inner f) .aux) ≡ 0 → b ≡ inner f → c ≡ cutsOf b → n ≡ c .head + c .aux + c .opens
+    → (127 ≤ length o) × (Fits f × (levelOf (view (inner f) .aux) ≡ 0)) → b ≡ inner f → c ≡ cutsOf b → n ≡ c .head + c .aux + c .opens
     → p ≡ part n (length b - n) b → o′ ≡ sets o 0 p → r ≡ report (view b) (levelOf (view b .aux)) 0 → Plainly f o r o′
 unfolding privateOf openEnd
-by-plain f o b c n p r o′ fits z e g m q w a =
+by-plain f o b c n p r o′ h e g m q w a =
     record {
-      answer = a ∙ ap (λ (x : List ℕ). report (view x) (levelOf (view x .aux)) 0) e ∙ ap (λ (l : ℕ). report (view (inner f)) l 0) z;
-      out = w ∙ sets-beside p o (let h = plain-room f o b n p fits e q in omega arith) ∙ ap (λ (x : List ℕ). beside x o) same;
+      answer = a ∙ ap (λ (x : List ℕ). report (view x) (levelOf (view x .aux)) 0) e ∙ ap (λ (l : ℕ). report (view (inner f)) l 0) (h .1 .1);
+      out = w ∙ sets-beside p o (let k = plain-room f o b n p (h .0) (h .1 .0) e q in omega arith) ∙ ap (λ (x : List ℕ). beside x o) same;
     }
   where
     same : p ≡ part (openEnd (view (inner f) .cuts)) (privateLen (view (inner f))) (inner f)
-    same = q ∙ rw (m, g, e, plain-len (inner f) z, view-cuts (inner f))
+    same = q ∙ rw (m, g, e, plain-len (inner f) (h .1 .1), view-cuts (inner f))
 
 -- ---- 14 and 15
 abbrev timeOf : List ℕ → List ℕ → ℕ → ℕ → Bool
 timeOf s f j d = timely (stored (storeOf s .counters) j d) (counterOf (view (inner f) .aux))
 
 -- the store's counter and address of a device are those of its record
-store-counter : (s : List ℕ) (j d : ℕ) → d < countOf s 1 → stored (storeOf s .counters) j d ≡ counterAt (body s 1) d
+store-counter : (s : List ℕ) → siteRule s ≡ true → (j d : ℕ) → d < countOf s devices → stored (storeOf s .counters) j d ≡ counterAt (body s devices) d
 unfolding stored
-store-counter s j d h = counter-of s d h
+store-counter s rule j d h = counter-of s rule d h
 
-store-extended : (s : List ℕ) (d : ℕ) → d < countOf s 1 → getD (storeOf s .tables .devices) d noDevice .extended ≡ extendedOf s d
+store-extended : (s : List ℕ) → siteRule s ≡ true → (d : ℕ) → d < countOf s devices → getD (storeOf s .tables .devices) d noDevice .extended ≡ extendedOf s d
 unfolding storeOf extendedOf
-store-extended s d h = ap (λ (x : Device). x .extended) (device-of s d h)
+store-extended s rule d h = ap (λ (x : Device). x .extended) (device-of s rule d h)
 
 store-key : (s : List ℕ) (k : ℕ) → keyAt (storeOf s .keys) k ≡ keyOfSite s k
 unfolding storeOf keyOfSite
 store-key s k = refl
 
 -- a refused counter
-pub at-counter : (s f o b : List ℕ) (k j d c : ℕ) (r : Received) → d < countOf s 1 → b ≡ inner f → c ≡ counterOf (view b .aux)
-    → timely (counterAt (body s 1) d) c ≡ false → r ≡ refusal CounterError → outcome r s o ≡ settled s f o (Secure k j d)
+pub at-counter : (s f o b : List ℕ) (k j d c : ℕ) (r : Received) → siteRule s ≡ true → d < countOf s devices → b ≡ inner f → c ≡ counterOf (view b .aux)
+    → timely (counterAt (body s devices) d) c ≡ false → r ≡ refusal CounterError → outcome r s o ≡ settled s f o (Secure k j d)
 unfolding settled settle admit write
-at-counter s f o b k j d c r h e g t a =
-    let w : timeOf s f j d ≡ false = rw (store-counter s j d h, ← e, ← g) t in
+at-counter s f o b k j d c r rule h e g t a =
+    let w : timeOf s f j d ≡ false = rw (store-counter s rule j d h, ← e, ← g) t in
     rw (w, a)
 
 pub counter-last : (n c : ℕ) → c ≡ 0xffff_ffff → timely n c ≡ false
@@ -148,22 +148,22 @@ counter-right : (n c u : ℕ) → u ≡ n → (c ≡ 0xffff_ffff → ⊥) → u 
 unfolding timely
 counter-right n c u e g h = let l : leb n c ≡ true = le-leb n c (rw e at h) in rw (ne-eqb c 0xffff_ffff g, l)
 
-pub last-counter : (s f o b : List ℕ) (k j d c : ℕ) (r : Received) → d < countOf s 1 → b ≡ inner f → c ≡ counterOf (view b .aux)
+pub last-counter : (s f o b : List ℕ) (k j d c : ℕ) (r : Received) → siteRule s ≡ true → d < countOf s devices → b ≡ inner f → c ≡ counterOf (view b .aux)
     → c ≡ 0xffff_ffff → r ≡ refusal CounterError → outcome r s o ≡ settled s f o (Secure k j d)
-last-counter s f o b k j d c r h e g t a = at-counter s f o b k j d c r h e g (counter-last _ c t) a
+last-counter s f o b k j d c r rule h e g t a = at-counter s f o b k j d c r rule h e g (counter-last _ c t) a
 
-pub low-counter : (s f o b : List ℕ) (k j d c u : ℕ) (r : Received) → d < countOf s 1 → b ≡ inner f → c ≡ counterOf (view b .aux)
-    → u ≡ counterAt (body s 1) d → c < u → r ≡ refusal CounterError → outcome r s o ≡ settled s f o (Secure k j d)
-low-counter s f o b k j d c u r h e g q t a = at-counter s f o b k j d c r h e g (counter-low _ c u q t) a
+pub low-counter : (s f o b : List ℕ) (k j d c u : ℕ) (r : Received) → siteRule s ≡ true → d < countOf s devices → b ≡ inner f → c ≡ counterOf (view b .aux)
+    → u ≡ counterAt (body s devices) d → c < u → r ≡ refusal CounterError → outcome r s o ≡ settled s f o (Secure k j d)
+low-counter s f o b k j d c u r rule h e g q t a = at-counter s f o b k j d c r rule h e g (counter-low _ c u q t) a
 
 -- what the callees ask
-pub inner-short : (f o b : List ℕ) → Fits (length o) f → b ≡ inner f → length b ≤ 125
+pub inner-short : (f b : List ℕ) → Fits f → b ≡ inner f → length b ≤ 125
 unfolding inner
-inner-short f o b fits e = rw e (simp length-take (omega (arith, fits .most)))
+inner-short f b fits e = rw e (simp length-take (omega (arith, fits .most)))
 
-pub device-fits : (s : List ℕ) (d : ℕ) → siteRule s ≡ true → d < countOf s 1 → Fits64 w64 (d + 1)
+pub device-fits : (s : List ℕ) (d : ℕ) → siteRule s ≡ true → d < countOf s devices → Fits64 w64 (d + 1)
 unfolding limitOf
-device-fits s d rule h = omega (arith, rule-limit s rule 1 (omega arith))
+device-fits s d rule h = omega (arith, rule-limit s rule devices (omega arith))
 
 private-is : (b : List ℕ) → privateLen (view b) ≡ length b - openEnd (cutsOf b) - tagLen (levelOf (view b .aux))
 unfolding privateLen
@@ -219,45 +219,45 @@ unfolding write tagged raisedIn
 any-handle s o p true a j d c = refl
 any-handle s o p false a j d c = refl
 
-pub by-counted : (s f o b : List ℕ) (k j d c u : ℕ) (z : Outcome) → d < countOf s 1 → b ≡ inner f → c ≡ counterOf (view b .aux)
-    → (c ≡ 0xffff_ffff → ⊥) → u ≡ counterAt (body s 1) d → u ≤ c → z ≡ unlocked s b o k d c → z ≡ settled s f o (Secure k j d)
+pub by-counted : (s f o b : List ℕ) (k j d c u : ℕ) (z : Outcome) → siteRule s ≡ true → d < countOf s devices → b ≡ inner f → c ≡ counterOf (view b .aux)
+    → (c ≡ 0xffff_ffff → ⊥) → u ≡ counterAt (body s devices) d → u ≤ c → z ≡ unlocked s b o k d c → z ≡ settled s f o (Secure k j d)
 unfolding unlocked settled settle admit
-by-counted s f o b k j d c u z h e g n q l m =
-    let t : timeOf s f j d ≡ true = rw (store-counter s j d h, ← e, ← g) (counter-right (counterAt (body s 1) d) c u q n l) in
-    m ∙ any-handle s o _ _ _ j d c ∙ rw (t, store-key s k, store-extended s d h, g, e)
+by-counted s f o b k j d c u z rule h e g n q l m =
+    let t : timeOf s f j d ≡ true = rw (store-counter s rule j d h, ← e, ← g) (counter-right (counterAt (body s devices) d) c u q n l) in
+    m ∙ any-handle s o _ _ _ j d c ∙ rw (t, store-key s k, store-extended s rule d h, g, e)
 
 pub counter-below : (c : ℕ) → (c ≡ 0xffff_ffff → ⊥) → c < 4294967296 → c < 4294967295
 counter-below c n h = omega arith
 
-pub room-long : (f o : List ℕ) → Fits (length o) f → 125 ≤ length o
-room-long f o fits = omega (arith, fits .room-is)
+pub room-long : (o : List ℕ) → 127 ≤ length o → 125 ≤ length o
+room-long o room = omega arith
 
 -- ---- the whole
-pub on-refused : (s f o : List ℕ) (v : Judged) (x : Refusal) (r : Received) → v ≡ judged (tablesOf s) (length o) f → v ≡ Refused x → r ≡ refusal x
-    → outcome r s o ≡ receivedValid s f o
-unfolding receivedValid verdict settle write
-on-refused s f o v x r d e a = rw (store-tables s, ← d, e, a)
+-- 2
+pub no-room : (s f o : List ℕ) (r : Received) → length o < 127 → r ≡ refusal Room → outcome r s o ≡ receivedValid s f o
+unfolding receivedValid verdict write
+no-room s f o r h a = rw (lt-leb 127 (length o) h, a)
 
-pub on-plain : (s f o : List ℕ) (v : Judged) (r : Received) (o′ : List ℕ) → v ≡ judged (tablesOf s) (length o) f → v ≡ Plain → Plainly f o r o′
-    → outcome r s o′ ≡ receivedValid s f o
-unfolding receivedValid verdict settle write raisedIn
-on-plain s f o v r o′ d e p = rw (store-tables s, ← d, e, p .answer, p .out)
+module _ (s f o : List ℕ) (v : Judged) (room : 127 ≤ length o) (d : v ≡ judged (tablesOf s) f) where
+  pub on-refused : (x : Refusal) (r : Received) → v ≡ Refused x → r ≡ refusal x → outcome r s o ≡ receivedValid s f o
+  unfolding receivedValid verdict settle write
+  on-refused x r e a = rw (le-leb 127 (length o) room, store-tables s, ← d, e, a)
 
-pub on-secure : (s f o : List ℕ) (v : Judged) (k j d : ℕ) (z : Outcome) → v ≡ judged (tablesOf s) (length o) f → v ≡ Secure k j d
-    → z ≡ settled s f o (Secure k j d) → z ≡ receivedValid s f o
-unfolding receivedValid verdict settled
-on-secure s f o v k j d z g e p = p ∙ rw (store-tables s, ← g, e)
+  pub on-plain : (r : Received) (o′ : List ℕ) → v ≡ Plain → Plainly f o r o′ → outcome r s o′ ≡ receivedValid s f o
+  unfolding receivedValid verdict settle write raisedIn
+  on-plain r o′ e p = rw (le-leb 127 (length o) room, store-tables s, ← d, e, p .answer, p .out)
+
+  pub on-secure : (k j i : ℕ) (z : Outcome) → v ≡ Secure k j i → z ≡ settled s f o (Secure k j i) → z ≡ receivedValid s f o
+  unfolding receivedValid verdict settled
+  on-secure k j i z e p = p ∙ rw (le-leb 127 (length o) room, store-tables s, ← d, e)
 
 -- the key and the device of a secured frame stand in their tables
-pub secured-in : (s f : List ℕ) (room k j d : ℕ) → siteRule s ≡ true → judged (tablesOf s) room f ≡ Secure k j d
-    → (k < countOf s 3) × ((d < countOf s 1) × Fits room f)
-unfolding tablesOf keyOf handleOf widthOf
-secured-in s f room k j d rule e =
-    let w = secure-fits (tablesOf s) room f k j d e in
+pub secured-in : (s f : List ℕ) (n k j d : ℕ) → 127 ≤ n → siteRule s ≡ true → judged (tablesOf s) f ≡ Secure k j d
+    → (k < countOf s keys) × ((d < countOf s devices) × ((127 ≤ n) × Fits f))
+secured-in s f n k j d room rule e =
+    let w = secure-fits (tablesOf s) f k j d e in
     let x = w .1 in
-    let i : x .row < countOf s 4 = rw (records-is s rule 4 (omega arith) (omega arith)) at (x .row-below) in
-    let n : j < countOf s 6 = rw (records-is s rule 6 (omega arith) (omega arith)) at (x .handle-below) in
-    (rw (x .key) (rule-lookups s rule (x .row) i), (rw (x .device) (rule-handles s rule j n), w .0))
+    (rw (x .key) (rule-lookups s rule (x .row) (x .row-below)), (rw (x .device) (rule-handles s rule j (x .handle-below)), (room, w .0)))
 
 -- 1
 pub on-site : (s f o : List ℕ) (u : Bool) (z : Outcome) → u ≡ siteRule s → u ≡ true → z ≡ receivedValid s f o → z ≡ received s f o

@@ -7,7 +7,8 @@ use native.Mathlib.Omega.{arith}
 use lib.ListN.{length}
 use Rattle.meaning.specs.Octets.{part}
 use Rattle.meaning.specs.Frame.{levelOf, counterOf, tagLen, cutsOf, view, openEnd, privateLen}
-use Rattle.meaning.specs.Site.{body, deviceAt, keyAt}
+use Rattle.meaning.specs.Records.{devices, keys, deviceAt, keyAt}
+use Rattle.meaning.specs.Site.{body}
 use Rattle.meaning.specs.Cipher.{cipher}
 use Rattle.meaning.specs.Ccm.{nonceOf}
 use Rattle.meaning.specs.Receive.{privateOf, opened}
@@ -26,7 +27,7 @@ private-in b x n m h k = omega arith
 
 -- ---- the nonce
 pub by-nonce : (s b : List ℕ) (d : ℕ) (c : Cuts) (l ext ctr : ℕ) (nonce : List ℕ) → c ≡ cutsOf b → l ≡ levelOf (part (c .head) (c .aux) b)
-    → ext ≡ deviceAt (body s 1) d .extended → ctr ≡ counterOf (view b .aux) → nonce ≡ nonceOf ext ctr l → nonce ≡ nonceIn s b d
+    → ext ≡ deviceAt (body s devices) d .extended → ctr ≡ counterOf (view b .aux) → nonce ≡ nonceOf ext ctr l → nonce ≡ nonceIn s b d
 unfolding nonceIn extendedOf
 by-nonce s b d c l ext ctr nonce e a u v x = x ∙ rw (u, v, a, e, view-aux b)
 
@@ -67,10 +68,10 @@ module _ (b : List ℕ) (c : Cuts) (l tag : ℕ) (e : c ≡ cutsOf b) (a : l ≡
 
 -- ---- the key
 pub by-key : (s b : List ℕ) (k d : ℕ) (key w nonce scratch exit : List ℕ) (r : Bool)
-    → key ≡ keyAt (body s 3) k → w ≡ scheduled key → nonce ≡ nonceIn s b d → OpenedWith (cipherBy w) nonce b scratch r exit
+    → key ≡ keyAt (body s keys) k → w ≡ scheduled key → nonce ≡ nonceIn s b d → OpenedWith (cipherBy w) nonce b scratch r exit
     → Unsecured (keyOfSite s k) (extendedOf s d) b scratch r exit
 unfolding opened keyOfSite nonceIn
 by-key s b k d key w nonce scratch exit r p q x y =
-    let E : cipherBy w ≡ cipher (keyAt (body s 3) k) = rw q (same-cipher key) ∙ ap cipher p in
-    let z : OpenedWith (cipher (keyAt (body s 3) k)) (nonceOf (extendedOf s d) (counterOf (view b .aux)) (levelOf (view b .aux))) b scratch r exit = rw (← E, ← x) y in
+    let E : cipherBy w ≡ cipher (keyAt (body s keys) k) = rw q (same-cipher key) ∙ ap cipher p in
+    let z : OpenedWith (cipher (keyAt (body s keys) k)) (nonceOf (extendedOf s d) (counterOf (view b .aux)) (levelOf (view b .aux))) b scratch r exit = rw (← E, ← x) y in
     record { verdict = z .verdict; text = z .text }

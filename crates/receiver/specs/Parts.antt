@@ -9,7 +9,8 @@ use Rattle.meaning.specs.Octets.{pick, beside}
 use Rattle.meaning.specs.Fcs.{inner}
 use Rattle.meaning.specs.Frame.{levelOf, counterOf, view, openEnd, privateLen}
 use Rattle.meaning.specs.Ccm.{nonceOf, Opened, unsealed}
-use Rattle.meaning.specs.Site.{body, keyAt, deviceAt, storeOf}
+use Rattle.meaning.specs.Records.{devices, keys, keyAt, deviceAt}
+use Rattle.meaning.specs.Site.{body, storeOf}
 use Rattle.meaning.specs.Receive.{report, privateOf, opened, Raise, raise, raisedIn, tagged, settle, Outcome, outcome, write}
 use Rattle.meaning.specs.declared.Judged.{Judged}
 use Rattle.meaning.specs.declared.Received.{Received}
@@ -39,10 +40,10 @@ pub record OpenedWith (E : List ℕ → List ℕ) (nonce b x : List ℕ) (right 
 
 -- the octets of key k, and the extended address of device d
 unfoldable pub keyOfSite : List ℕ → ℕ → List ℕ
-keyOfSite s k = keyAt (body s 3) k
+keyOfSite s k = keyAt (body s keys) k
 
 unfoldable pub extendedOf : List ℕ → ℕ → ℕ
-extendedOf s d = deviceAt (body s 1) d .extended
+extendedOf s d = deviceAt (body s devices) d .extended
 
 -- an accepted secured frame b from device d with counter c: its text is in front of the scratch x
 unfoldable pub committed : List ℕ → List ℕ → List ℕ → List ℕ → ℕ → ℕ → Outcome

@@ -4,6 +4,7 @@ ghost use mathlib.Core.Path.{_≡_};
 ghost use mathlib.Core.Bool.{true};
 ghost use Prim.Native.Nat.{_+_, _≤_, _<_};
 ghost use lib.ListN.{length};
+ghost use Rattle.meaning.specs.Records.{devices, keys};
 ghost use Rattle.meaning.specs.Fcs.{IsTable, inner};
 ghost use Rattle.meaning.specs.Sbox.{IsSbox};
 ghost use Rattle.meaning.specs.Frame.{cutsOf, view, levelOf, counterOf, tagLen, openEnd};
@@ -89,7 +90,8 @@ fn accepted(body: &[u8], c: Cuts, device: usize) -> Received
 
 // A frame without security: its private payload goes to the front of the output, whose later octets stay.
 fn accept_plain(frame: &[u8], out: &mut [u8]) -> Received
-    requires { ⌜ Fits (length (now out)) (now frame) ⌝ }
+    requires { ⌜ 127 ≤ length (now out) ⌝ }
+    requires { ⌜ Fits (now frame) ⌝ }
     requires { ⌜ levelOf (view (inner (now frame)) .aux) ≡ 0 ⌝ }
     ensures { λ r. ⌜ Plainly (now (frame .entry)) (now (out .entry)) r (now (out .exit)) ⌝ }
 {
@@ -112,7 +114,7 @@ fn counter_in(body: &[u8], c: Cuts) -> u32
 fn nonce_of(site: &[u8], body: &[u8], c: Cuts, device: usize) -> [u8; 13]
     requires { ⌜ c ≡ cutsOf (now body) ⌝ }
     requires { ⌜ siteRule (now site) ≡ true ⌝ }
-    requires { ⌜ device < countOf (now site) 1 ⌝ }
+    requires { ⌜ device < countOf (now site) devices ⌝ }
     ensures { λ r. ⌜ r ≡ nonceIn (now (site .entry)) (now (body .entry)) device ⌝ }
 {
     let level = frame::level_in(body, c);
@@ -158,8 +160,8 @@ fn unsecure(
     requires { ⌜ c ≡ cutsOf (now body) ⌝ }
     requires { ⌜ IsSbox (now sbox) ⌝ }
     requires { ⌜ siteRule (now site) ≡ true ⌝ }
-    requires { ⌜ key < countOf (now site) 3 ⌝ }
-    requires { ⌜ device < countOf (now site) 1 ⌝ }
+    requires { ⌜ key < countOf (now site) keys ⌝ }
+    requires { ⌜ device < countOf (now site) devices ⌝ }
     requires { ⌜ openEnd (cutsOf (now body)) + tagLen (levelOf (view (now body) .aux)) ≤ length (now body) ⌝ }
     requires { ⌜ length (now body) ≤ 125 ⌝ }
     requires { ⌜ 125 ≤ length (now scratch) ⌝ }
@@ -182,7 +184,7 @@ fn commit(
 ) -> Received
     requires { ⌜ c ≡ cutsOf (now body) ⌝ }
     requires { ⌜ siteRule (now site) ≡ true ⌝ }
-    requires { ⌜ device < countOf (now site) 1 ⌝ }
+    requires { ⌜ device < countOf (now site) devices ⌝ }
     requires { ⌜ counter < 4294967295 ⌝ }
     requires { ⌜ openEnd (cutsOf (now body)) + tagLen (levelOf (view (now body) .aux)) ≤ length (now body) ⌝ }
     requires { ⌜ length (now body) ≤ length (now out) ⌝ }
@@ -209,8 +211,8 @@ fn unlock(
     requires { ⌜ c ≡ cutsOf (now body) ⌝ }
     requires { ⌜ IsSbox (now sbox) ⌝ }
     requires { ⌜ siteRule (now site) ≡ true ⌝ }
-    requires { ⌜ key < countOf (now site) 3 ⌝ }
-    requires { ⌜ device < countOf (now site) 1 ⌝ }
+    requires { ⌜ key < countOf (now site) keys ⌝ }
+    requires { ⌜ device < countOf (now site) devices ⌝ }
     requires { ⌜ counter < 4294967295 ⌝ }
     requires { ⌜ openEnd (cutsOf (now body)) + tagLen (levelOf (view (now body) .aux)) ≤ length (now body) ⌝ }
     requires { ⌜ length (now body) ≤ 125 ⌝ }
@@ -236,9 +238,10 @@ fn settle(
 ) -> Received
     requires { ⌜ IsSbox (now sbox) ⌝ }
     requires { ⌜ siteRule (now site) ≡ true ⌝ }
-    requires { ⌜ key < countOf (now site) 3 ⌝ }
-    requires { ⌜ device < countOf (now site) 1 ⌝ }
-    requires { ⌜ Fits (length (now out)) (now frame) ⌝ }
+    requires { ⌜ key < countOf (now site) keys ⌝ }
+    requires { ⌜ device < countOf (now site) devices ⌝ }
+    requires { ⌜ 127 ≤ length (now out) ⌝ }
+    requires { ⌜ Fits (now frame) ⌝ }
     ensures { λ r. ⌜ outcome r (now (site .exit)) (now (out .exit)) ≡ settled (now (site .entry)) (now (frame .entry)) (now (out .entry)) (Judged.Secure key handle device) ⌝ }
 {
     let body = body_of(frame);
@@ -254,7 +257,8 @@ fn settle(
     unlock(sbox, site, body, c, out, &mut scratch, key, device, counter)
 }
 
-// Receives a frame on a site that holds its rules, with the two tables lent: the answer, and what the site and the output then hold.
+// Receives a frame on a site that holds its rules, with the two tables lent: 2 for want of room, then by the judgment on the frame.
+// The answer, and what the site and the output then hold.
 pub fn receive_valid(
     sums: &[u16; 256],
     sbox: &[u8; 256],
@@ -267,8 +271,10 @@ pub fn receive_valid(
     requires { ⌜ siteRule (now site) ≡ true ⌝ }
     ensures { λ r. ⌜ outcome r (now (site .exit)) (now (out .exit)) ≡ receivedValid (now (site .entry)) (now (frame .entry)) (now (out .entry)) ⌝ }
 {
-    let room = out.len();
-    match stages::judge(sums, &site[..], room, frame) {
+    if out.len() < 127 {
+        return refused(Refusal::Room);
+    }
+    match stages::judge(sums, &site[..], frame) {
         Judged::Refused(r) => refused(r),
         Judged::Plain => accept_plain(frame, out),
         Judged::Secure(key, handle, device) => settle(sbox, site, frame, out, key, handle, device),

@@ -1,8 +1,9 @@
-// Statuses 2 to 13, a stage a function, each ending in the next. Nothing here reads a key, a counter, the private payload or the tag.
+// Statuses 3 to 13, a stage a function, each ending in the next. Nothing here reads a key, a counter, the private payload or the tag.
 ghost use mathlib.Core.Path.{_≡_};
 ghost use mathlib.Core.Bool.{true, _&&_};
 ghost use Prim.Native.Nat.{_+_, _<_};
 ghost use lib.Dec.{eqb};
+ghost use Rattle.meaning.specs.Records.{levels};
 ghost use Rattle.meaning.specs.Fcs.{IsTable};
 ghost use Rattle.meaning.specs.Frame.{cutsOf, view};
 ghost use Rattle.meaning.specs.Site.{countOf, siteRule, tablesOf};
@@ -31,8 +32,9 @@ fn on_device(site: &[u8], h: Header, key: usize) -> Judged
 {
     let source = h.source;
     let peer = search::peer_of(site::settings(site), source);
-    let handles = site::table(site, 6);
-    let Found::At(j) = search::handle_row(handles, site::table(site, 1), key, peer) else {
+    let handles = site::table(site, records::HANDLES);
+    let Found::At(j) = search::handle_row(handles, site::table(site, records::DEVICES), key, peer)
+    else {
         return Judged::Refused(Refusal::UnavailableDevice);
     };
     Judged::Secure(key, j, search::device_of(handles, j))
@@ -44,7 +46,7 @@ fn on_use(site: &[u8], h: Header, opens: &[u8], key: usize) -> Judged
     ensures { λ r. ⌜ r ≡ onUse (tablesOf (now (site .entry))) h (now (opens .entry)) key ⌝ }
 {
     let Found::At(row) = search::usage_row(
-        site::table(site, 5),
+        site::table(site, records::USAGES),
         key,
         h.kind,
         octets::octet(opens, 0),
@@ -64,7 +66,7 @@ fn on_key<'a>(site: &'a [u8], h: Header, aux: &'a [u8], opens: &[u8]) -> Judged
     let peer = search::peer_of(settings, source);
     let mode = frame::mode_of(aux);
     let given = frame::key_source(aux, settings, mode);
-    let lookups = site::table(site, 4);
+    let lookups = site::table(site, records::LOOKUPS);
     let Found::At(i) = search::key_row(lookups, mode, frame::key_index(aux), given, peer) else {
         return Judged::Refused(Refusal::UnavailableKey);
     };
@@ -78,7 +80,7 @@ fn on_exempt(site: &[u8], h: Header) -> Judged
 {
     let source = h.source;
     let peer = search::peer_of(site::settings(site), source);
-    let devices = site::table(site, 1);
+    let devices = site::table(site, records::DEVICES);
     let Found::At(d) = search::device_row(devices, peer) else {
         return Judged::Refused(Refusal::UnavailableDevice);
     };
@@ -92,10 +94,10 @@ fn on_exempt(site: &[u8], h: Header) -> Judged
 // 10: the policy of level record i; level 0 succeeds.
 fn on_policy<'a>(site: &'a [u8], h: Header, aux: &'a [u8], opens: &[u8], i: usize) -> Judged
     requires { ⌜ siteRule (now site) ≡ true ⌝ }
-    requires { ⌜ i < countOf (now site) 2 ⌝ }
+    requires { ⌜ i < countOf (now site) levels ⌝ }
     ensures { λ r. ⌜ r ≡ onPolicy (tablesOf (now (site .entry))) h (now (aux .entry)) (now (opens .entry)) i ⌝ }
 {
-    let levels = site::table(site, 2);
+    let levels = site::table(site, records::LEVELS);
     let level = frame::level_of(aux);
     if search::passes(levels, i, level) {
         if level == 0 {
@@ -116,7 +118,7 @@ fn on_level<'a>(site: &'a [u8], h: Header, aux: &'a [u8], opens: &[u8]) -> Judge
     requires { ⌜ siteRule (now site) ≡ true ⌝ }
     ensures { λ r. ⌜ r ≡ onLevel (tablesOf (now (site .entry))) h (now (aux .entry)) (now (opens .entry)) ⌝ }
 {
-    let levels = site::table(site, 2);
+    let levels = site::table(site, records::LEVELS);
     let Found::At(i) = search::level_row(levels, h.kind, octets::octet(opens, 0)) else {
         return Judged::Refused(Refusal::UnavailableSecurityLevel);
     };
@@ -192,15 +194,12 @@ fn on_body<'a>(site: &'a [u8], body: &'a [u8]) -> Judged
     Judged::Refused(Refusal::Malformed)
 }
 
-// 2, 3, 4, and the stages after them. Lends the FCS table.
-pub fn judge<'a>(sums: &[u16; 256], site: &'a [u8], room: usize, frame: &'a [u8]) -> Judged
+// 3, 4, and the stages after them. Lends the FCS table.
+pub fn judge<'a>(sums: &[u16; 256], site: &'a [u8], frame: &'a [u8]) -> Judged
     requires { ⌜ IsTable (now sums) ⌝ }
     requires { ⌜ siteRule (now site) ≡ true ⌝ }
-    ensures { λ r. ⌜ r ≡ judged (tablesOf (now (site .entry))) room (now (frame .entry)) ⌝ }
+    ensures { λ r. ⌜ r ≡ judged (tablesOf (now (site .entry))) (now (frame .entry)) ⌝ }
 {
-    if room < 127 {
-        return Judged::Refused(Refusal::Room);
-    }
     if frame.len() < 5 {
         return Judged::Refused(Refusal::Length);
     }

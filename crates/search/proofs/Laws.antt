@@ -1,4 +1,4 @@
--- The searches over the devices by their octets; the key lookup by the source compared; a lookup record's test by its parts. Assumes nothing.
+-- The searches over devices and handles by their octets; the key lookup by the source compared; a lookup record's test by its parts. Assumes nothing.
 use mathlib.Core.Path.{_≡_, refl, ap, sym, _∙_}
 use mathlib.Core.Bool.{Bool, true, false, _&&_}
 use mathlib.Core.List.{List, _++_}
@@ -9,8 +9,8 @@ use lib.Seq.{sets, take-at, take-append-add}
 use lib.Dec.{eqb}
 use Rattle.meaning.specs.Octets.{first, octs, stands, tab}
 use Rattle.meaning.specs.Frame.{addressLen, keySourceLen}
-use Rattle.meaning.specs.Site.{records, deviceAt, defaultKeySource}
-use Rattle.meaning.specs.Steps.{isPeer, noDevice, deviceRow, fitsLookup, peerOctets, keySource, keyRow, handleOf, handleRow}
+use Rattle.meaning.specs.Records.{records, deviceAt, defaultKeySource, noDevice, Handle, handleAt, noHandle, handlesIn}
+use Rattle.meaning.specs.Steps.{isPeer, deviceRow, fitsLookup, peerOctets, keySource, keyRow, handleOf, handleRow}
 use Rattle.meaning.specs.declared.Found.{Found}
 use Rattle.meaning.specs.declared.Found.the-variants.{At, Nothing}
 use Rattle.meaning.specs.declared.Address.{Address}
@@ -22,8 +22,8 @@ use Rattle.meaning.proofs.Tests.{and-on, and-left, and-right}
 use Rattle.meaning.proofs.Tabs.{length-tab, getD-tab}
 use Rattle.meaning.proofs.Stores.{sets-append, sets-whole}
 use Rattle.meaning.proofs.Numbers.{length-octs, octs-add}
-use Rattle.meaning.proofs.Rows.{device-below, source-below}
-use Rattle.search.specs.Rows.{implicitRow, keyRowBy}
+use Rattle.meaning.proofs.Rows.{device-below, handle-below, source-below}
+use Rattle.search.specs.Rows.{implicitRow, keyRowBy, handleRowBy}
 
 -- a loop's return at its place
 pub at-hit : (p : ℕ → Bool) (n i : ℕ) → Passed p At Nothing n i → i < n → p i ≡ true → At i ≡ first p At Nothing n
@@ -37,15 +37,39 @@ deviceRow-tab b n p =
     (first-same (λ d. isPeer p (getD (tab (deviceAt b) n) d noDevice)) (λ d. isPeer p (deviceAt b d)) At Nothing n
     (λ d l. ap (isPeer p) (getD-tab (deviceAt b) noDevice n d l)))
 
+-- ---- the handles by their octets
+handle-at : (b : List ℕ) (j : ℕ) → j < records 2 b → getD (handlesIn b) j noHandle ≡ handleAt b j
+handle-at b j l = getD-tab (handleAt b) noHandle (records 2 b) j l
+
+pub handle-of : (b : List ℕ) (j : ℕ) → j < records 2 b → handleOf (handlesIn b) j ≡ handleAt b j .device
+unfolding handleOf
+handle-of b j l = ap (λ (x : Handle). x .device) (handle-at b j l)
+
+pub handleRow-by : (b : List ℕ) (ds : List Device) (k : ℕ) (p : Address) → handleRow (handlesIn b) ds k p ≡ handleRowBy b ds k p
+unfolding handleRow handleRowBy handleOf handleAt
+handleRow-by b ds k p =
+    rw (length-tab (handleAt b) (records 2 b))
+    (first-same
+    (λ j. eqb (getD (handlesIn b) j noHandle .key) k && isPeer p (getD ds (getD (handlesIn b) j noHandle .device) noDevice))
+    (λ j. eqb (getD b (2 * j) 0) k && isPeer p (getD ds (getD b (2 * j + 1) 0) noDevice))
+    At Nothing (records 2 b)
+    (λ j l. ap (λ (x : Handle). eqb (x .key) k && isPeer p (getD ds (x .device) noDevice)) (handle-at b j l)))
+
 pub handleRow-tab : (b devices : List ℕ) (n k : ℕ) (p : Address) → ((j : ℕ) → j < records 2 b → getD b (2 * j + 1) 0 < n)
-    → handleRow b (tab (deviceAt devices) n) k p ≡ first (λ j. eqb (getD b (2 * j) 0) k && isPeer p (deviceAt devices (handleOf b j))) At Nothing (records 2 b)
-unfolding handleRow handleOf
+    → handleRow (handlesIn b) (tab (deviceAt devices) n) k p
+    ≡ first (λ j. eqb (getD b (2 * j) 0) k && isPeer p (deviceAt devices (handleAt b j .device))) At Nothing (records 2 b)
+unfolding handleRowBy handleAt
 handleRow-tab b devices n k p h =
-    first-same
+    handleRow-by b (tab (deviceAt devices) n) k p
+    ∙ first-same
     (λ j. eqb (getD b (2 * j) 0) k && isPeer p (getD (tab (deviceAt devices) n) (getD b (2 * j + 1) 0) noDevice))
     (λ j. eqb (getD b (2 * j) 0) k && isPeer p (deviceAt devices (getD b (2 * j + 1) 0)))
     At Nothing (records 2 b)
     (λ j l. ap (λ (d : Device). eqb (getD b (2 * j) 0) k && isPeer p d) (getD-tab (deviceAt devices) noDevice n (getD b (2 * j + 1) 0) (h j l)))
+
+-- a handle found has its record there
+pub handle-below-by : (b : List ℕ) (ds : List Device) (k : ℕ) (p : Address) (u : Found) (j : ℕ) → u ≡ handleRow (handlesIn b) ds k p → u ≡ At j → j < records 2 b
+handle-below-by b ds k p u j e h = rw (length-tab (handleAt b) (records 2 b)) at (handle-below (handlesIn b) ds k p u j e h)
 
 -- a device found by its octets has its record there
 pub device-below-tab : (b : List ℕ) (n : ℕ) (p : Address) (u : Found) (d : ℕ) → u ≡ deviceRow (tab (deviceAt b) n) p → u ≡ At d → d < n
@@ -59,9 +83,9 @@ pub peer-at : (p : Address) (devices : List ℕ) (d : ℕ) (x : Device) (r z : B
 peer-at p devices d x r z f h k = peer-by p devices d d x r z refl f h k
 
 -- a device that a handle of the table names is there
-pub handle-in : (b devices : List ℕ) (j u : ℕ) → ((j : ℕ) → j < records 2 b → getD b (2 * j + 1) 0 < records 17 devices) → j < records 2 b → u ≡ handleOf b j
+pub handle-in : (b devices : List ℕ) (j u : ℕ) → ((j : ℕ) → j < records 2 b → getD b (2 * j + 1) 0 < records 17 devices) → j < records 2 b → u ≡ handleAt b j .device
     → u < records 17 devices
-unfolding handleOf
+unfolding handleAt
 handle-in b devices j u h l e = rw e (h j l)
 
 -- ---- keys

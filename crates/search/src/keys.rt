@@ -9,7 +9,7 @@ ghost use Prim.Native.Nat.{_+_, _*_, _/_, _≤_, _<_};
 ghost use lib.ListN.{length, getD};
 ghost use lib.Dec.{eqb};
 ghost use Rattle.meaning.specs.Octets.{octs};
-ghost use Rattle.meaning.specs.Site.{records};
+ghost use Rattle.meaning.specs.Records.{records};
 ghost use Rattle.meaning.specs.Steps.{lookupRow, keyOf, usageRow};
 ghost use Rattle.search.specs.Rows.{keyRowBy, implicitRow};
 

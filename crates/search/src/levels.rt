@@ -4,7 +4,7 @@ ghost use mathlib.Core.Path.{_≡_};
 ghost use Prim.Native.Nat.{_+_, _*_, _/_, _%_, _^_, _≤_, _<_};
 ghost use lib.ListN.{length};
 ghost use lib.Dec.{eqb};
-ghost use Rattle.meaning.specs.Site.{records};
+ghost use Rattle.meaning.specs.Records.{records};
 ghost use Rattle.meaning.specs.Steps.{fits, levelRow, passes, overrides};
 
 // The type stands at the place, and for type 3 the command after it.

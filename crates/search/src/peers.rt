@@ -4,8 +4,7 @@ use meaning::Device;
 use meaning::Found;
 ghost use mathlib.Core.Path.{_≡_};
 ghost use Prim.Native.Nat.{_+_, _*_, _/_, _<_};
-ghost use Rattle.meaning.specs.Octets.{tab};
-ghost use Rattle.meaning.specs.Site.{records, deviceAt};
+ghost use Rattle.meaning.specs.Records.{records, deviceAt, devicesIn};
 ghost use Rattle.meaning.specs.Steps.{standIn, peerOf, isPeer, deviceRow};
 
 // The coordinator as the settings name it: by its short address, by its extended one where that is 0xfffe, nobody where it is 0xffff.
@@ -76,7 +75,7 @@ pub fn is_peer(d: Device, p: Address) -> bool
 
 // The first device record, in file order, that is the peer's.
 pub fn device_row(devices: &[u8], p: Address) -> Found
-    ensures { λ r. ⌜ r ≡ deviceRow (tab (deviceAt (now (devices .entry))) (records 17 (now (devices .entry)))) p ⌝ }
+    ensures { λ r. ⌜ r ≡ deviceRow (devicesIn (now (devices .entry))) p ⌝ }
 {
     let n = devices.len() / 17;
     let mut d: usize = 0;

@@ -1,5 +1,5 @@
 // Builds and receives a frame of every type, level, key mode and addressing shape on one site, and prints what comes back; then the
-// longest frame; then which sites keep their rules. The sites come on standard input, as `layout.txt` says, which also has the columns.
+// longest frame; then which site files keep their rules. The files come on standard input, as `layout.txt` says, which also has the columns.
 // Read requests, comparing, rounds, then sites.
 mod comparing;
 mod printing;
@@ -14,8 +14,8 @@ use requests::private_len;
 use requests::request_of;
 use rounds::round_of;
 use sites::limits;
-use sites::long_sites;
-use sites::read_site;
+use sites::long_files;
+use sites::read_file;
 ghost use Prim.Native.Nat.{_≤_};
 ghost use lib.ListN.{length};
 
@@ -69,9 +69,11 @@ fn run(site: &[u8])
 }
 
 fn main() {
-    let mut site = io::buffer();
-    let n = read_site(&mut site);
-    run(&site[..n]);
+    let mut file = io::buffer();
+    let n = read_file(&mut file);
+    let mut site = [0u8; site::SITE_LEN];
+    load::load(&file[..n], &mut site);
+    run(&site);
     limits();
-    long_sites();
+    long_files();
 }

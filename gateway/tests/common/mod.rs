@@ -5,7 +5,7 @@
 use std::env;
 use std::process::Command;
 
-use second::testkit::{summed, BuildInput, SiteSpec};
+use second::testkit::{scribbled, summed, BuildInput, Rng, SiteSpec};
 
 /// The log program, where `rt check log` puts it.
 pub const LOG: &str = concat!(env!("CARGO_MANIFEST_DIR"), "/../target/bin/log");
@@ -25,6 +25,13 @@ pub struct Outcome<A> {
     pub answer: A,
     pub site: Vec<u8>,
     pub out: Vec<u8>,
+}
+
+/// What is lent to loading.
+#[derive(Clone, Debug)]
+pub struct Loading {
+    pub file: Vec<u8>,
+    pub site: Vec<u8>,
 }
 
 /// What is lent to receiving.
@@ -89,11 +96,46 @@ pub fn request(other: &second::Request) -> gateway::Request {
     }
 }
 
+impl Loading {
+    /// What the archive does.
+    pub fn ours(&self) -> Outcome<u8> {
+        let mut site = self.site.clone();
+        Outcome { answer: gateway::raw::load(&self.file, &mut site), site, out: Vec::new() }
+    }
+
+    /// What the second implementation does.
+    pub fn theirs(&self) -> Outcome<u8> {
+        let mut site = self.site.clone();
+        Outcome { answer: second::load(&self.file, &mut site), site, out: Vec::new() }
+    }
+
+    fn fault(&self) -> Option<String> {
+        let (ours, theirs) = (self.ours(), self.theirs());
+        if ours != theirs {
+            return Some(format!("ours {ours:02x?}\ntheirs {theirs:02x?}"));
+        }
+        match ours.answer {
+            0 if gateway::raw::site_holds(&ours.site) => None,
+            0 => Some("a loaded site breaks a rule".to_string()),
+            _ if ours.site == self.site => None,
+            _ => Some(format!("a refusal changed something: {ours:02x?}")),
+        }
+    }
+
+    /// Both agree; gives the outcome.
+    pub fn agreed(&self) -> Outcome<u8> {
+        if let Some(fault) = self.fault() {
+            panic!("file {:02x?}\nsite {} octets\n{fault}", self.file, self.site.len());
+        }
+        self.theirs()
+    }
+}
+
 impl Reception {
     /// What the archive does.
     pub fn ours(&self) -> Outcome<second::Received> {
         let mut lent = self.clone();
-        let answer = gateway::receive(&mut lent.site, &lent.frame, &mut lent.out);
+        let answer = gateway::raw::receive(&mut lent.site, &lent.frame, &mut lent.out);
         Outcome { answer: received(answer), site: lent.site, out: lent.out }
     }
 
@@ -142,11 +184,10 @@ impl Reception {
     fn least(&self, spec: Option<&SiteSpec>) -> Reception {
         let mut least = self.clone();
         if let Some(spec) = spec {
-            let tells = |spec: &SiteSpec| {
-                Reception { site: spec.encode(), ..self.clone() }.fault().is_some()
-            };
+            let tells =
+                |spec: &SiteSpec| Reception { site: spec.site(), ..self.clone() }.fault().is_some();
             if tells(spec) {
-                least.site = least_spec(spec.clone(), &tells).encode();
+                least.site = least_spec(spec.clone(), &tells).site();
             }
         }
         loop {
@@ -168,7 +209,7 @@ impl Order {
         let mut lent = self.clone();
         let asked = request(&lent.input.request);
         let (open, private) = (&lent.input.open, &lent.input.private);
-        let built = gateway::build(&mut lent.site, &asked, open, private, &mut lent.out);
+        let built = gateway::raw::build(&mut lent.site, &asked, open, private, &mut lent.out);
         let answer = second::Built { status: built.status, len: built.len };
         Outcome { answer, site: lent.site, out: lent.out }
     }
@@ -196,11 +237,10 @@ impl Order {
         if self.fault().is_some() {
             let mut least = self.clone();
             if let Some(spec) = spec {
-                let tells = |spec: &SiteSpec| {
-                    Order { site: spec.encode(), ..self.clone() }.fault().is_some()
-                };
+                let tells =
+                    |spec: &SiteSpec| Order { site: spec.site(), ..self.clone() }.fault().is_some();
                 if tells(spec) {
-                    least.site = least_spec(spec.clone(), &tells).encode();
+                    least.site = least_spec(spec.clone(), &tells).site();
                 }
             }
             least.input.private = (0..=self.input.private.len())
@@ -279,6 +319,14 @@ fn shorter_frames(frame: &[u8]) -> Vec<Vec<u8>> {
     all
 }
 
+/// The loaded site, half of the time with random free octets.
+pub fn some_free(rng: &mut Rng, spec: &SiteSpec) -> Vec<u8> {
+    match rng.chance(50) {
+        true => spec.site(),
+        false => scribbled(rng, &spec.site()),
+    }
+}
+
 /// A buffer of so many octets, none of them zero.
 pub fn buffer(len: usize) -> Vec<u8> {
     (0..len).map(|place| 0x80 | place as u8).collect()
@@ -299,7 +347,8 @@ impl Histogram {
     /// often as it says.
     pub fn check(&self, title: &str, groups: &[(&[u8], usize)]) {
         println!("{title}: {} answers", self.counts.iter().sum::<usize>());
-        for (count, name) in self.counts.iter().zip(second::status::NAMES) {
+        let named = self.counts.iter().zip(second::status::NAMES);
+        for (count, name) in named.filter(|(count, _)| **count > 0) {
             println!("{count:>8} {name}");
         }
         for (statuses, least) in groups {

@@ -19,12 +19,11 @@ const CASES: [(FrameCase, bool); 12] = [
     (FrameCase::Secured, false),
 ];
 
-/// The input for one seed: site length, site, frames, and a last frame that is cut.
+/// The input for one seed: file length, file, frames, and a last frame that is cut.
 fn input(seed: u64) -> Vec<u8> {
     let mut rng = Rng::new(seed);
     let mut spec = SiteSpec::random(&mut rng);
-    let mut site = spec.encode();
-    let start = site.clone();
+    let (file, mut site) = (spec.encode(), spec.site());
     let mut out = [0u8; 127];
     let mut frames: Vec<Vec<u8>> = Vec::new();
     for (case, again) in CASES {
@@ -36,7 +35,7 @@ fn input(seed: u64) -> Vec<u8> {
         second::receive(&mut site, &frame, &mut out);
         frames.push(frame);
     }
-    let mut octets = log_of(&start, &frames);
+    let mut octets = log_of(&file, &frames);
     octets.extend([9, 0x61, 0x88]);
     octets
 }

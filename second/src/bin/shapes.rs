@@ -1,4 +1,4 @@
-//! Writes the sites that the crate `shapes` reads to standard output, for
+//! Writes the site files that the crate `shapes` reads to standard output, for
 //! `crates/shapes/stdin`.
 
 use std::io::Write;

@@ -1,28 +1,23 @@
-//! Damaged sites: each site rule broken in turn, and what looks broken and
-//! is allowed.
+//! Damaged files and sites: each rule broken in turn, and what looks broken
+//! and is allowed.
 
 use super::rng::Rng;
 use super::sites::{encode_bodies, Device, Handle, Level, Lookup, SiteSpec, Usage};
+use crate::file::{CONTENTS_LEN, ENTRY_LEN};
 use crate::frame::{Address, EXTENDED};
 use crate::octets::u16_at;
-use crate::site::{CONTENTS_LEN, DEVICES, HANDLES, MAX_COUNT, RECORD_LEN, USAGES};
+use crate::records::Kind;
+use crate::site::count_at;
 
-/// A way to break one site rule. Numbers are kinds, 1 to 7.
+/// Where an entry of the table of contents has its record length, its count
+/// and its offset.
+const RECORD_LENGTH: usize = 1;
+const COUNT: usize = 2;
+const OFFSET: usize = 4;
+
+/// A way to break one rule of records, in a file or a site.
 #[derive(Clone, Copy, Debug, PartialEq, Eq)]
-pub enum Breakage {
-    Empty,
-    InsideContents,
-    OneShort,
-    OneLong,
-    EntryKind(usize),
-    EntryRecordLength(usize),
-    EntryOffset(usize),
-    EntryCountMore(usize),
-    EntryCountLess(usize),
-    CountOver(usize),
-    NoSettings,
-    Gap(usize),
-    BodiesSwapped,
+pub enum RecordBreakage {
     SettingsFlags,
     DeviceExempt,
     DeviceSameExtended,
@@ -39,11 +34,87 @@ pub enum Breakage {
     HandleDevice,
 }
 
-impl Breakage {
+impl RecordBreakage {
+    pub const ALL: [RecordBreakage; 14] = [
+        RecordBreakage::SettingsFlags,
+        RecordBreakage::DeviceExempt,
+        RecordBreakage::DeviceSameExtended,
+        RecordBreakage::DeviceSameShort,
+        RecordBreakage::LevelType,
+        RecordBreakage::LevelMinimum,
+        RecordBreakage::LevelOverride,
+        RecordBreakage::LookupKey,
+        RecordBreakage::LookupMode,
+        RecordBreakage::LookupPeerMode,
+        RecordBreakage::UsageKey,
+        RecordBreakage::UsageType,
+        RecordBreakage::HandleKey,
+        RecordBreakage::HandleDevice,
+    ];
+
+    /// Breaks a record of a filled site.
+    fn apply(&self, rng: &mut Rng, spec: &mut SiteSpec) {
+        let (keys, devices) = (spec.keys.len() as u8, spec.devices.len());
+        match self {
+            RecordBreakage::SettingsFlags => spec.settings.flags |= 1 << rng.between(2, 7),
+            RecordBreakage::DeviceExempt => one(rng, &mut spec.devices).exempt = over(rng, 1),
+            RecordBreakage::DeviceSameExtended => {
+                let (from, to) = pair(rng, devices);
+                spec.devices[to].extended = spec.devices[from].extended;
+            }
+            RecordBreakage::DeviceSameShort => {
+                let (from, to) = pair(rng, devices);
+                spec.devices[from].short = rng.pick(&[0, 1, 0x1234, 0xfffd]);
+                spec.devices[to].short = spec.devices[from].short;
+                spec.devices[to].pan = spec.devices[from].pan;
+            }
+            RecordBreakage::LevelType => one(rng, &mut spec.levels).kind = over(rng, 3),
+            RecordBreakage::LevelMinimum => one(rng, &mut spec.levels).minimum = over(rng, 7),
+            RecordBreakage::LevelOverride => one(rng, &mut spec.levels).overridden = over(rng, 1),
+            RecordBreakage::LookupKey => one(rng, &mut spec.lookups).key = over(rng, keys - 1),
+            RecordBreakage::LookupMode => one(rng, &mut spec.lookups).mode = over(rng, 3),
+            RecordBreakage::LookupPeerMode => {
+                let lookup = one(rng, &mut spec.lookups);
+                lookup.mode = 0;
+                lookup.peer.mode = rng.pick(&[0, 1, 4, 5, 0x82, 0xff]);
+            }
+            RecordBreakage::UsageKey => one(rng, &mut spec.usages).key = over(rng, keys - 1),
+            RecordBreakage::UsageType => one(rng, &mut spec.usages).kind = over(rng, 3),
+            RecordBreakage::HandleKey => one(rng, &mut spec.handles).key = over(rng, keys - 1),
+            RecordBreakage::HandleDevice => {
+                one(rng, &mut spec.handles).device = over(rng, devices as u8 - 1);
+            }
+        }
+    }
+}
+
+/// A way to break one rule of the file.
+#[derive(Clone, Copy, Debug, PartialEq, Eq)]
+pub enum FileBreakage {
+    Empty,
+    InsideContents,
+    OneShort,
+    OneLong,
+    EntryKind(Kind),
+    EntryRecordLength(Kind),
+    EntryOffset(Kind),
+    EntryCountMore(Kind),
+    EntryCountLess(Kind),
+    CountOver(Kind),
+    NoSettings,
+    Gap(Kind),
+    BodiesSwapped,
+    /// A site where a file is wanted.
+    Loaded,
+    Record(RecordBreakage),
+}
+
+impl FileBreakage {
     /// Every breakage.
-    pub fn all() -> Vec<Breakage> {
-        use Breakage::*;
+    pub fn all() -> Vec<FileBreakage> {
+        use FileBreakage::*;
         let mut all = vec![Empty, InsideContents, OneShort, OneLong, NoSettings, BodiesSwapped];
+        all.push(Loaded);
         let by_kind = [
             EntryKind,
             EntryRecordLength,
@@ -54,11 +125,83 @@ impl Breakage {
             Gap,
         ];
         for make in by_kind {
-            all.extend((1..=7).map(make));
+            all.extend(Kind::ALL.map(make));
         }
-        all.extend([SettingsFlags, DeviceExempt, DeviceSameExtended, DeviceSameShort]);
-        all.extend([LevelType, LevelMinimum, LevelOverride, LookupKey, LookupMode]);
-        all.extend([LookupPeerMode, UsageKey, UsageType, HandleKey, HandleDevice]);
+        all.extend(RecordBreakage::ALL.map(Record));
+        all
+    }
+
+    /// The breakage's name, with its kind.
+    pub fn name(&self) -> String {
+        format!("{self:?}")
+    }
+
+    /// A file of a site like the given one, broken in this way only.
+    pub fn apply(&self, rng: &mut Rng, spec: &SiteSpec) -> Vec<u8> {
+        let mut spec = filled(rng, spec);
+        match *self {
+            FileBreakage::Record(breakage) => {
+                breakage.apply(rng, &mut spec);
+                spec.encode()
+            }
+            FileBreakage::CountOver(kind) => count_over(&spec, kind),
+            FileBreakage::NoSettings => {
+                let mut bodies = spec.bodies();
+                bodies[Kind::Settings as usize].clear();
+                encode_bodies(&bodies)
+            }
+            FileBreakage::Gap(kind) => gap(rng, &spec, kind),
+            FileBreakage::BodiesSwapped => swapped(&spec),
+            FileBreakage::Loaded => spec.site(),
+            _ => self.break_octets(rng, spec.encode()),
+        }
+    }
+
+    /// Breaks the length or the table of contents.
+    fn break_octets(&self, rng: &mut Rng, mut file: Vec<u8>) -> Vec<u8> {
+        match *self {
+            FileBreakage::Empty => file.clear(),
+            FileBreakage::InsideContents => file.truncate(rng.between(1, CONTENTS_LEN - 1)),
+            FileBreakage::OneShort => file.truncate(file.len() - 1),
+            FileBreakage::OneLong => file.push(rng.octet()),
+            FileBreakage::EntryKind(kind) => file[entry_at(kind)] ^= rng.between(1, 255) as u8,
+            FileBreakage::EntryRecordLength(kind) => {
+                file[entry_at(kind) + RECORD_LENGTH] ^= rng.between(1, 255) as u8;
+            }
+            FileBreakage::EntryOffset(kind) => {
+                let change = rng.pick(&[1, 0x100, 0xffff, 0xff00]);
+                add_to(&mut file, entry_at(kind) + OFFSET, change);
+            }
+            FileBreakage::EntryCountMore(kind) => add_to(&mut file, entry_at(kind) + COUNT, 1),
+            FileBreakage::EntryCountLess(kind) => add_to(&mut file, entry_at(kind) + COUNT, 0xffff),
+            _ => {}
+        }
+        file
+    }
+}
+
+/// A way to break one rule of a loaded site.
+#[derive(Clone, Copy, Debug, PartialEq, Eq)]
+pub enum SiteBreakage {
+    Empty,
+    OneShort,
+    OneLong,
+    /// A file where a site is wanted.
+    File,
+    NoSettings,
+    CountOver(Kind),
+    CountFarOver(Kind),
+    Record(RecordBreakage),
+}
+
+impl SiteBreakage {
+    /// Every breakage.
+    pub fn all() -> Vec<SiteBreakage> {
+        use SiteBreakage::*;
+        let mut all = vec![Empty, OneShort, OneLong, File, NoSettings];
+        all.extend(Kind::ALL.map(CountOver));
+        all.extend(Kind::ALL.map(CountFarOver));
+        all.extend(RecordBreakage::ALL.map(Record));
         all
     }
 
@@ -70,75 +213,22 @@ impl Breakage {
     /// A site like the given one, broken in this way only.
     pub fn apply(&self, rng: &mut Rng, spec: &SiteSpec) -> Vec<u8> {
         let mut spec = filled(rng, spec);
-        if self.breaks_record(rng, &mut spec) {
-            return spec.encode();
+        if let SiteBreakage::Record(breakage) = self {
+            breakage.apply(rng, &mut spec);
         }
+        let mut site = spec.site();
         match *self {
-            Breakage::CountOver(kind) => count_over(&spec, kind),
-            Breakage::NoSettings => {
-                let mut bodies = spec.bodies();
-                bodies[0].clear();
-                encode_bodies(&bodies)
+            SiteBreakage::Empty => site.clear(),
+            SiteBreakage::OneShort => site.truncate(site.len() - 1),
+            SiteBreakage::OneLong => site.push(rng.octet()),
+            SiteBreakage::File => site = spec.encode(),
+            SiteBreakage::NoSettings => set_count(&mut site, Kind::Settings, 0),
+            SiteBreakage::CountOver(kind) => set_count(&mut site, kind, kind.limit() + 1),
+            SiteBreakage::CountFarOver(kind) => {
+                let count = rng.between(kind.limit() + 1, 0xffff);
+                set_count(&mut site, kind, count);
             }
-            Breakage::Gap(kind) => gap(rng, &spec, kind),
-            Breakage::BodiesSwapped => swapped(&spec),
-            _ => self.break_octets(rng, spec.encode()),
-        }
-    }
-
-    /// Breaks a record; false where the rule is not about one.
-    fn breaks_record(&self, rng: &mut Rng, spec: &mut SiteSpec) -> bool {
-        let (keys, devices) = (spec.keys.len(), spec.devices.len());
-        match self {
-            Breakage::SettingsFlags => spec.settings.flags |= 1 << rng.between(2, 7),
-            Breakage::DeviceExempt => one(rng, &mut spec.devices).exempt = over(rng, 1),
-            Breakage::DeviceSameExtended => {
-                let (from, to) = pair(rng, devices);
-                spec.devices[to].extended = spec.devices[from].extended;
-            }
-            Breakage::DeviceSameShort => {
-                let (from, to) = pair(rng, devices);
-                spec.devices[from].short = rng.pick(&[0, 1, 0x1234, 0xfffd]);
-                spec.devices[to].short = spec.devices[from].short;
-                spec.devices[to].pan = spec.devices[from].pan;
-            }
-            Breakage::LevelType => one(rng, &mut spec.levels).kind = over(rng, 3),
-            Breakage::LevelMinimum => one(rng, &mut spec.levels).minimum = over(rng, 7),
-            Breakage::LevelOverride => one(rng, &mut spec.levels).overridden = over(rng, 1),
-            Breakage::LookupKey => one(rng, &mut spec.lookups).key = over(rng, keys as u8 - 1),
-            Breakage::LookupMode => one(rng, &mut spec.lookups).mode = over(rng, 3),
-            Breakage::LookupPeerMode => {
-                let lookup = one(rng, &mut spec.lookups);
-                lookup.mode = 0;
-                lookup.peer.mode = rng.pick(&[0, 1, 4, 5, 0x82, 0xff]);
-            }
-            Breakage::UsageKey => one(rng, &mut spec.usages).key = over(rng, keys as u8 - 1),
-            Breakage::UsageType => one(rng, &mut spec.usages).kind = over(rng, 3),
-            Breakage::HandleKey => one(rng, &mut spec.handles).key = over(rng, keys as u8 - 1),
-            Breakage::HandleDevice => {
-                one(rng, &mut spec.handles).device = over(rng, devices as u8 - 1);
-            }
-            _ => return false,
-        }
-        true
-    }
-
-    /// Breaks the length or the table of contents.
-    fn break_octets(&self, rng: &mut Rng, mut site: Vec<u8>) -> Vec<u8> {
-        match *self {
-            Breakage::Empty => site.clear(),
-            Breakage::InsideContents => site.truncate(rng.between(1, CONTENTS_LEN - 1)),
-            Breakage::OneShort => site.truncate(site.len() - 1),
-            Breakage::OneLong => site.push(rng.octet()),
-            Breakage::EntryKind(kind) => site[6 * kind - 6] ^= rng.between(1, 255) as u8,
-            Breakage::EntryRecordLength(kind) => site[6 * kind - 5] ^= rng.between(1, 255) as u8,
-            Breakage::EntryOffset(kind) => {
-                let change = rng.pick(&[1, 0x100, 0xffff, 0xff00]);
-                change_entry(&mut site, 6 * kind - 2, change);
-            }
-            Breakage::EntryCountMore(kind) => change_entry(&mut site, 6 * kind - 4, 1),
-            Breakage::EntryCountLess(kind) => change_entry(&mut site, 6 * kind - 4, 0xffff),
-            _ => {}
+            SiteBreakage::Record(_) => {}
         }
         site
     }
@@ -183,7 +273,7 @@ impl Allowance {
     }
 
     /// A site like the given one that uses this allowance.
-    pub fn apply(&self, rng: &mut Rng, spec: &SiteSpec) -> Vec<u8> {
+    pub fn apply(&self, rng: &mut Rng, spec: &SiteSpec) -> SiteSpec {
         let mut spec = filled(rng, spec);
         match self {
             Allowance::PeerModeUnused => {
@@ -208,10 +298,10 @@ impl Allowance {
             Allowance::Smallest => {
                 spec = SiteSpec { settings: spec.settings, ..SiteSpec::default() };
             }
-            Allowance::Largest => return largest(&spec),
+            Allowance::Largest => fill_up(&mut spec),
             _ => self.share_address(rng, &mut spec),
         }
-        spec.encode()
+        spec
     }
 
     /// Two devices that share what they may.
@@ -236,28 +326,26 @@ impl Allowance {
 /// for one more of each.
 fn filled(rng: &mut Rng, spec: &SiteSpec) -> SiteSpec {
     let mut spec = spec.clone();
-    spec.keys.truncate(15);
+    spec.keys.truncate(Kind::Keys.limit() - 1);
     if spec.keys.is_empty() {
         spec.keys.push([rng.octet(); 16]);
     }
-    let (keys, most_devices) = (spec.keys.len() as u8, MAX_COUNT[DEVICES - 1] - 1);
-    spec.devices.truncate(most_devices);
+    spec.devices.truncate(Kind::Devices.limit() - 1);
     while spec.devices.len() < 2 {
         add_device(&mut spec);
     }
-    let devices = spec.devices.len() as u8;
-    spec.levels.truncate(15);
+    let (keys, devices) = (spec.keys.len() as u8, spec.devices.len() as u8);
+    spec.levels.truncate(Kind::Levels.limit() - 2);
     spec.levels.push(Level { kind: 1, ..Level::default() });
-    spec.levels.truncate(15);
     spec.lookups.retain(|lookup| lookup.key < keys);
-    spec.lookups.truncate(62);
+    spec.lookups.truncate(Kind::Lookups.limit() - 2);
     let peer = Address { mode: EXTENDED, ..Address::default() };
     spec.lookups.push(Lookup { peer, ..Lookup::default() });
     spec.usages.retain(|usage| usage.key < keys);
-    spec.usages.truncate(MAX_COUNT[USAGES - 1] - 2);
+    spec.usages.truncate(Kind::Usages.limit() - 2);
     spec.usages.push(Usage::default());
     spec.handles.retain(|handle| handle.key < keys && handle.device < devices);
-    spec.handles.truncate(MAX_COUNT[HANDLES - 1] - 2);
+    spec.handles.truncate(Kind::Handles.limit() - 2);
     spec.handles.push(Handle::default());
     spec
 }
@@ -271,69 +359,78 @@ fn add_device(spec: &mut SiteSpec) {
     spec.devices.push(Device { short: 0xfffe, extended, ..Device::default() });
 }
 
-/// One more record of a kind than allowed.
-fn count_over(spec: &SiteSpec, kind: usize) -> Vec<u8> {
+/// The file with one more record of a kind than allowed.
+fn count_over(spec: &SiteSpec, kind: Kind) -> Vec<u8> {
     let mut spec = spec.clone();
-    if kind == DEVICES {
-        while spec.devices.len() <= MAX_COUNT[DEVICES - 1] {
-            add_device(&mut spec);
-        }
+    while kind == Kind::Devices && spec.devices.len() <= kind.limit() {
+        add_device(&mut spec);
     }
     let mut bodies = spec.bodies();
-    fill_up(&mut bodies, kind, MAX_COUNT[kind - 1] + 1);
+    let body = &mut bodies[kind as usize];
+    while body.len() <= kind.limit() * kind.record_len() {
+        body.extend_from_within(..kind.record_len());
+    }
     encode_bodies(&bodies)
 }
 
 /// As many records of each kind as allowed.
-fn largest(spec: &SiteSpec) -> Vec<u8> {
-    let mut spec = spec.clone();
-    while spec.devices.len() < MAX_COUNT[DEVICES - 1] {
-        add_device(&mut spec);
+fn fill_up(spec: &mut SiteSpec) {
+    while spec.devices.len() < Kind::Devices.limit() {
+        add_device(spec);
     }
-    let mut bodies = spec.bodies();
-    for kind in 1..=7 {
-        fill_up(&mut bodies, kind, MAX_COUNT[kind - 1]);
-    }
-    encode_bodies(&bodies)
+    repeat_first(&mut spec.levels, Kind::Levels);
+    repeat_first(&mut spec.keys, Kind::Keys);
+    repeat_first(&mut spec.lookups, Kind::Lookups);
+    repeat_first(&mut spec.usages, Kind::Usages);
+    repeat_first(&mut spec.handles, Kind::Handles);
 }
 
-/// Repeats the first record of a kind up to a count.
-fn fill_up(bodies: &mut [Vec<u8>; 7], kind: usize, count: usize) {
-    let len = RECORD_LEN[kind - 1];
-    let record = bodies[kind - 1][..len].to_vec();
-    while bodies[kind - 1].len() < count * len {
-        bodies[kind - 1].extend(&record);
-    }
+/// Repeats the first record up to the limit of its kind.
+fn repeat_first<T: Copy>(records: &mut Vec<T>, kind: Kind) {
+    records.resize(kind.limit(), records[0]);
+}
+
+/// Where the entry of a kind stands in the table of contents.
+fn entry_at(kind: Kind) -> usize {
+    ENTRY_LEN * kind as usize
+}
+
+/// Where the body of a kind stands, as the table of contents says.
+fn body_at(file: &[u8], kind: Kind) -> usize {
+    u16_at(file, entry_at(kind) + OFFSET).into()
 }
 
 /// An octet before the body of a kind, and the offsets to fit.
-fn gap(rng: &mut Rng, spec: &SiteSpec, kind: usize) -> Vec<u8> {
-    let mut site = spec.encode();
-    let at = usize::from(u16_at(&site, 6 * kind - 2));
-    for later in kind..=7 {
-        change_entry(&mut site, 6 * later - 2, 1);
+fn gap(rng: &mut Rng, spec: &SiteSpec, kind: Kind) -> Vec<u8> {
+    let mut file = spec.encode();
+    let at = body_at(&file, kind);
+    for later in &Kind::ALL[kind as usize..] {
+        add_to(&mut file, entry_at(*later) + OFFSET, 1);
     }
-    site.insert(at, rng.octet());
-    site
+    file.insert(at, rng.octet());
+    file
 }
 
 /// Usages and handles in the wrong order, and the offsets to fit.
 fn swapped(spec: &SiteSpec) -> Vec<u8> {
-    let mut site = spec.encode();
-    let usages_at = usize::from(u16_at(&site, 6 * USAGES - 2));
-    let handles_at = usize::from(u16_at(&site, 6 * HANDLES - 2));
-    let handles_len = (site.len() - handles_at) as u16;
-    site[usages_at..].rotate_left(handles_at - usages_at);
-    let usages_len = (handles_at - usages_at) as u16;
-    change_entry(&mut site, 6 * USAGES - 2, handles_len);
-    change_entry(&mut site, 6 * HANDLES - 2, usages_len.wrapping_neg());
-    site
+    let mut file = spec.encode();
+    let (usages_at, handles_at) = (body_at(&file, Kind::Usages), body_at(&file, Kind::Handles));
+    let (usages_len, handles_len) = (handles_at - usages_at, file.len() - handles_at);
+    file[usages_at..].rotate_left(usages_len);
+    add_to(&mut file, entry_at(Kind::Usages) + OFFSET, handles_len as u16);
+    add_to(&mut file, entry_at(Kind::Handles) + OFFSET, (usages_len as u16).wrapping_neg());
+    file
 }
 
 /// Adds to a field of two octets.
-fn change_entry(site: &mut [u8], at: usize, change: u16) {
-    let value = u16_at(site, at).wrapping_add(change);
-    site[at..at + 2].copy_from_slice(&value.to_le_bytes());
+pub(super) fn add_to(octets: &mut [u8], at: usize, change: u16) {
+    let value = u16_at(octets, at).wrapping_add(change);
+    octets[at..at + 2].copy_from_slice(&value.to_le_bytes());
+}
+
+/// Sets the count of a kind in a site.
+pub(super) fn set_count(site: &mut [u8], kind: Kind, count: usize) {
+    site[count_at(kind)..][..2].copy_from_slice(&(count as u16).to_le_bytes());
 }
 
 /// One of the records.

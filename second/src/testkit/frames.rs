@@ -525,10 +525,10 @@ pub fn run_of<F: AsRef<[u8]>>(frames: &[F]) -> Vec<u8> {
     run
 }
 
-/// An input of the log program: site length, site, frames.
-pub fn log_of<F: AsRef<[u8]>>(site: &[u8], frames: &[F]) -> Vec<u8> {
-    let mut input = (site.len() as u16).to_le_bytes().to_vec();
-    input.extend(site);
+/// An input of the log program: file length, file, frames.
+pub fn log_of<F: AsRef<[u8]>>(file: &[u8], frames: &[F]) -> Vec<u8> {
+    let mut input = (file.len() as u16).to_le_bytes().to_vec();
+    input.extend(file);
     input.extend(run_of(frames));
     input
 }

@@ -1,11 +1,11 @@
 //! Sites as records, and random ones.
 
 use super::rng::Rng;
+use crate::file::CONTENTS_LEN;
 use crate::frame::{Address, NONE, SHORT};
-use crate::octets::{u16_at, u32_at};
-use crate::site::{
-    CONTENTS_LEN, DEVICES, HANDLES, KEYS, LEVELS, LOOKUPS, MAX_COUNT, RECORD_LEN, USAGES,
-};
+use crate::octets::u32_at;
+use crate::records::{Kind, KINDS};
+use crate::site::{device_counter_at, region_at, COUNTER_AT, SITE_LEN};
 
 #[derive(Clone, Copy, Debug, Default, PartialEq, Eq)]
 pub struct Settings {
@@ -61,7 +61,7 @@ pub struct Handle {
     pub device: u8,
 }
 
-/// A site; `default` encodes to the smallest, with security off.
+/// A site; `default` encodes to the smallest file, with security off.
 #[derive(Clone, Debug, Default, PartialEq, Eq)]
 pub struct SiteSpec {
     pub settings: Settings,
@@ -74,13 +74,29 @@ pub struct SiteSpec {
 }
 
 impl SiteSpec {
-    /// The octets of the site. Broken records are encoded as they are.
+    /// The site's file. Broken records are encoded as they are.
     pub fn encode(&self) -> Vec<u8> {
         encode_bodies(&self.bodies())
     }
 
+    /// The site as loading its file makes it, without the help of `load`.
+    /// Broken records are laid as they are.
+    pub fn site(&self) -> Vec<u8> {
+        let bodies = self.bodies();
+        let counts =
+            bodies.iter().zip(Kind::ALL).map(|(body, kind)| body.len() / kind.record_len());
+        let mut site: Vec<u8> = counts.flat_map(|count| (count as u16).to_le_bytes()).collect();
+        for (kind, body) in Kind::ALL.into_iter().zip(bodies) {
+            assert!(body.len() <= kind.limit() * kind.record_len());
+            site.resize(region_at(kind), 0);
+            site.extend(body);
+        }
+        site.resize(SITE_LEN, 0);
+        site
+    }
+
     /// The octets of the records of each kind.
-    pub(super) fn bodies(&self) -> [Vec<u8>; 7] {
+    pub(super) fn bodies(&self) -> [Vec<u8>; KINDS] {
         [
             self.settings.octets(),
             self.devices.iter().flat_map(Device::octets).collect(),
@@ -92,12 +108,11 @@ impl SiteSpec {
         ]
     }
 
-    /// Takes over the counters that stand in the octets of this site.
+    /// Takes over the counters that stand in the site.
     pub fn refresh(&mut self, site: &[u8]) {
-        self.settings.counter = u32_at(site, CONTENTS_LEN + 31);
-        let offset = usize::from(u16_at(site, 6 * (DEVICES - 1) + 4));
+        self.settings.counter = u32_at(site, COUNTER_AT);
         for (number, device) in self.devices.iter_mut().enumerate() {
-            device.counter = u32_at(site, offset + 17 * number + 12);
+            device.counter = u32_at(site, device_counter_at(number));
         }
     }
 
@@ -116,7 +131,7 @@ impl SiteSpec {
         let mut spec = SiteSpec { settings: Settings::random(rng), ..SiteSpec::default() };
         spec.draw_devices(rng);
         spec.draw_levels(rng);
-        let keys = draw_count(rng, KEYS);
+        let keys = draw_count(rng, Kind::Keys);
         spec.keys = (0..keys).map(|_| draw_key(rng)).collect();
         if keys > 0 {
             spec.draw_lookups(rng);
@@ -127,7 +142,7 @@ impl SiteSpec {
     }
 
     fn draw_devices(&mut self, rng: &mut Rng) {
-        for _ in 0..draw_count(rng, DEVICES) {
+        for _ in 0..draw_count(rng, Kind::Devices) {
             let device = Device::random(rng, &self.settings);
             let clashes = |other: &Device| {
                 other.extended == device.extended
@@ -149,7 +164,7 @@ impl SiteSpec {
         }
         rng.shuffle(&mut self.levels);
         if rng.chance(5) {
-            while self.levels.len() < MAX_COUNT[LEVELS - 1] {
+            while self.levels.len() < Kind::Levels.limit() {
                 let (kind, command) = (rng.below(4) as u8, rng.below(10) as u8);
                 self.levels.push(Level::random(rng, kind, command));
             }
@@ -157,7 +172,7 @@ impl SiteSpec {
     }
 
     fn draw_lookups(&mut self, rng: &mut Rng) {
-        let count = draw_count(rng, LOOKUPS).max(2);
+        let count = draw_count(rng, Kind::Lookups).max(2);
         for number in 0..count {
             let mut lookup = Lookup::random(rng, self);
             if rng.chance(70) {
@@ -170,13 +185,13 @@ impl SiteSpec {
     fn draw_usages(&mut self, rng: &mut Rng) {
         for key in 0..self.keys.len() as u8 {
             for (kind, command) in [(0, 0), (1, 0), (3, 1), (3, 4)] {
-                if rng.chance(80) && self.usages.len() < MAX_COUNT[USAGES - 1] {
+                if rng.chance(80) && self.usages.len() < Kind::Usages.limit() {
                     self.usages.push(Usage { key, kind, command });
                 }
             }
         }
         if rng.chance(5) {
-            while self.usages.len() < MAX_COUNT[USAGES - 1] {
+            while self.usages.len() < Kind::Usages.limit() {
                 let (key, kind) = (rng.below(self.keys.len()) as u8, rng.below(4) as u8);
                 self.usages.push(Usage { key, kind, command: rng.below(10) as u8 });
             }
@@ -187,13 +202,13 @@ impl SiteSpec {
     fn draw_handles(&mut self, rng: &mut Rng) {
         for device in 0..self.devices.len() as u8 {
             for key in 0..self.keys.len() as u8 {
-                if rng.chance(60) && self.handles.len() < MAX_COUNT[HANDLES - 1] {
+                if rng.chance(60) && self.handles.len() < Kind::Handles.limit() {
                     self.handles.push(Handle { key, device });
                 }
             }
         }
         if rng.chance(5) && !self.devices.is_empty() {
-            while self.handles.len() < MAX_COUNT[HANDLES - 1] {
+            while self.handles.len() < Kind::Handles.limit() {
                 let key = rng.below(self.keys.len()) as u8;
                 let device = rng.below(self.devices.len()) as u8;
                 self.handles.push(Handle { key, device });
@@ -215,19 +230,19 @@ impl SiteSpec {
     }
 }
 
-/// The site of these bodies.
-pub(super) fn encode_bodies(bodies: &[Vec<u8>; 7]) -> Vec<u8> {
+/// The file of these bodies.
+pub(super) fn encode_bodies(bodies: &[Vec<u8>; KINDS]) -> Vec<u8> {
     let mut offset = CONTENTS_LEN;
-    let mut site = Vec::new();
-    for (index, body) in bodies.iter().enumerate() {
-        let len = RECORD_LEN[index];
-        site.extend([index as u8 + 1, len as u8]);
-        site.extend(((body.len() / len) as u16).to_le_bytes());
-        site.extend((offset as u16).to_le_bytes());
+    let mut file = Vec::new();
+    for (kind, body) in Kind::ALL.into_iter().zip(bodies) {
+        let len = kind.record_len();
+        file.extend([kind as u8 + 1, len as u8]);
+        file.extend(((body.len() / len) as u16).to_le_bytes());
+        file.extend((offset as u16).to_le_bytes());
         offset += body.len();
     }
-    site.extend(bodies.concat());
-    site
+    file.extend(bodies.concat());
+    file
 }
 
 impl Settings {
@@ -349,12 +364,11 @@ impl Lookup {
 }
 
 /// How many records of a kind: mostly few, sometimes none or all.
-fn draw_count(rng: &mut Rng, kind: usize) -> usize {
-    let most = MAX_COUNT[kind - 1];
+fn draw_count(rng: &mut Rng, kind: Kind) -> usize {
     match rng.below(20) {
         0 => 0,
-        1 => most,
-        _ => rng.between(1, most.min(8)),
+        1 => kind.limit(),
+        _ => rng.between(1, kind.limit().min(8)),
     }
 }
 

@@ -38,7 +38,7 @@ use denote.Triple.Spec.{Meets, tripleOf}
 use denote.Triple.Table.{entered}
 use denote.Triple.Walked.{says, needs, Stays, stay-none, stay-none-slice, walkOf, goes-none, goes-none-slice, Walks, ends-at, walked, walk-meets}
 use denote.Exit.{yes}
-use Rattle.meaning.specs.Steps.{noDevice}
+use Rattle.meaning.specs.Records.{noDevice}
 use Rattle.meaning.specs.declared.Device.{Device}
 use Rattle.meaning.proofs.Device as T
 use Rattle.meaning.proofs.Device.Laws as T′

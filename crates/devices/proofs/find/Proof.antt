@@ -44,8 +44,8 @@ use denote.Triple.Table.{entered, cited}
 use denote.Triple.Walked.{says, needs, Stays, stay-none, stay-none-slice, walkOf, goes-none, goes-none-slice, Walks, ends-at, walked, walk-meets}
 use denote.Triple.Clauses.{ensured, lasts}
 use denote.Exit.{yes}
-use Rattle.meaning.specs.Site.{records}
-use Rattle.meaning.specs.Steps.{noDevice, handleRow}
+use Rattle.meaning.specs.Records.{records, noDevice}
+use Rattle.search.specs.Rows.{handleRowBy}
 use Rattle.devices.specs.Devices.{deviceOf, handleFrom, triedOf, answerOf}
 use Rattle.meaning.specs.declared.Device.{Device}
 use Rattle.devices.specs.declared.Sought.{Sought}
@@ -215,7 +215,7 @@ module _ {M : Type 1} (𝓤 : URA M) (H : Heap 𝓤) (A : Atoms 𝓤) (W : Given
   abbrev low : Found → Val
   low r = EL.val F.the-type F′.the-laws r
 
-  exits : (r : Found) → r ≡ handleRow hs ds (s .key) (s .peer) → Is F.the-row r (low r ∷ []) → ent 𝓤 (⋆ 𝓤 H A (Tok ∷ Tok′ ∷ ‵ OwnD ∷ ‵ OwnH ∷ [])) (Post (low r))
+  exits : (r : Found) → r ≡ handleRowBy hs ds (s .key) (s .peer) → Is F.the-row r (low r ∷ []) → ent 𝓤 (⋆ 𝓤 H A (Tok ∷ Tok′ ∷ ‵ OwnD ∷ ‵ OwnH ∷ [])) (Post (low r))
   exits r e is =
       qed W (Tok ∷ Tok′ ∷ ‵ OwnD ∷ ‵ OwnH ∷ []) ∵
       suffices ! _ (ends-at 𝓤 H A find.ended stayed (find.clauses 𝓤 H A mem run) W bound (low r) r (tt, (tt, (tt, tt))) (tt, (tt, (tt, tt)))) $ says ! e $

@@ -5,13 +5,13 @@ use mathlib.Core.List.{List}
 use Prim.Native.Nat.{ℕ}
 use native.Mathlib.Omega.{arith}
 use borrow.Author.Needs.{needs}
-use Rattle.meaning.specs.Octets.{tab}
-use Rattle.meaning.specs.Site.{records, body, deviceAt, siteRule, tablesOf}
+use Rattle.meaning.specs.Records.{devices, handles, widthOf, limitOf, devicesIn, handlesIn}
+use Rattle.meaning.specs.Site.{body, siteRule, tablesOf}
 use Rattle.meaning.specs.Steps.{handleRow}
 use Rattle.meaning.specs.declared.Address.{Address}
 use Rattle.meaning.specs.declared.Found.{Found}
 use Rattle.meaning.specs.declared.Found.the-variants.{Nothing}
-use Rattle.meaning.proofs.Sites.{devices-are, handles-in, devices-short}
+use Rattle.meaning.proofs.Sites.{handles-in, devices-short}
 use Rattle.devices.specs.Devices.{foundAt}
 use Rattle.devices.proofs.find_at.Statement.{statement}
 use Rattle.devices.proofs.find_at.Tie as tie
@@ -20,10 +20,10 @@ use Rattle.devices.proofs.find_at.Tie as tie
 held : (s : List ℕ) (u : Bool) → u ≡ siteRule s → u ≡ true → siteRule s ≡ true
 held s u d e = sym d ∙ e
 
-on-site : (s hs ds : List ℕ) (key : ℕ) (p : Address) (u : Bool) (r : Found) → u ≡ siteRule s → u ≡ true → hs ≡ body s 6 → ds ≡ body s 1
-    → r ≡ handleRow hs (tab (deviceAt ds) (records 17 ds)) key p → r ≡ foundAt s key p
+on-site : (s hs ds : List ℕ) (key : ℕ) (p : Address) (u : Bool) (r : Found) → u ≡ siteRule s → u ≡ true → hs ≡ body s handles → ds ≡ body s devices
+    → r ≡ handleRow (handlesIn hs) (devicesIn ds) key p → r ≡ foundAt s key p
 unfolding foundAt tablesOf
-on-site s hs ds key p u r d e a b g = g ∙ rw (a, b, devices-are s (held s u d e), held s u d e)
+on-site s hs ds key p u r d e a b g = g ∙ rw (a, b, held s u d e)
 
 off-site : (s : List ℕ) (key : ℕ) (p : Address) (u : Bool) → u ≡ siteRule s → u ≡ false → Nothing ≡ foundAt s key p
 unfolding foundAt
@@ -39,6 +39,7 @@ table-requires-2 : tie.Need-table-requires-2
 table-requires-2 c κs = (search held, omega arith)
 
 find-in-requires : tie.Need-find-in-requires
+unfolding widthOf limitOf
 find-in-requires c κs = (search (devices-short, held), search (handles-in, held))
 
 returns : tie.Need-returns

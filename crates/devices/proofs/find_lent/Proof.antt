@@ -47,9 +47,9 @@ use denote.Triple.Table.{entered, cited}
 use denote.Triple.Walked.{says, needs, Stays, stay-none, stay-none-slice, walkOf, goes-none, goes-none-slice, Walks, ends-at, walked, walk-meets}
 use denote.Triple.Clauses.{ensured, lasts}
 use denote.Exit.{yes}
-use Rattle.meaning.specs.Site.{records}
-use Rattle.meaning.specs.Steps.{handleRow}
-use Rattle.devices.specs.Devices.{deviceOf, devicesOf, devicesIn}
+use Rattle.meaning.specs.Records.{records}
+use Rattle.search.specs.Rows.{handleRowBy}
+use Rattle.devices.specs.Devices.{deviceOf, devicesOf, devicesLent}
 use Rattle.meaning.specs.declared.Device.{Device}
 use Rattle.devices.specs.declared.Sought.{Sought}
 use Rattle.meaning.specs.declared.Found.{Found}
@@ -250,13 +250,13 @@ module _ {M : Type 1} (𝓤 : URA M) (H : Heap 𝓤) (A : Atoms 𝓤) (W : Given
   fi-says α b γ r = ensured 𝓤 H A fi.ended (fi.clauses 𝓤 H A mem run) (α ∷ [], (κ′, tt)) (lent b γ, (y, (s, tt))) tt r
 
   abbrev out : Found
-  out = handleRow hs ds (s .key) (s .peer)
+  out = handleRowBy hs ds (s .key) (s .peer)
 
   fi-said : (α b : ℕ) (γ : GName) (r : Found) → ent 𝓤 (fi-says α b γ r) (fact 𝓤 (r ≡ out))
   fi-said α b γ r = exE 𝓤 _ (λ ws. snd∗ 𝓤 (sem 𝓤 H A (lasts fi.ended (α ∷ [], (κ′, tt)) (lent b γ, (y, (s, tt))) ws)) (fact 𝓤 (r ≡ out)))
 
-  right : out ≡ handleRow hs (devicesIn (x .now)) (s .key) (s .peer)
-  unfolding devicesIn
+  right : out ≡ handleRowBy hs (devicesLent (x .now)) (s .key) (s .peer)
+  unfolding devicesLent
   right = refl
 
   abbrev low : Found → Val

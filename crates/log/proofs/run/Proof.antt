@@ -23,11 +23,11 @@ record Runs (site₀ buf₀ text₀ : List ℕ) (ok : Bool) (site buf text out :
   out-long : length out ≡ 127
 
 abbrev Inv-loop : tie.InvT-loop
-Inv-loop site₀ buf₀ from to text₀ sums sbox names out₀ ok at₀ have₀ number₀ site buf text out at have number =
+Inv-loop ok site₀ buf₀ from to text₀ sums sbox names out₀ at₀ have₀ number₀ site buf text out at have number =
     Runs site₀ buf₀ text₀ ok site buf text out at have
 
 abbrev μ-loop : tie.MeasureT-loop
-μ-loop site₀ buf₀ from to text₀ sums sbox names out₀ ok at₀ have₀ number₀ site buf text out at have number = 2 ^ 64 - number
+μ-loop ok site₀ buf₀ from to text₀ sums sbox names out₀ at₀ have₀ number₀ site buf text out at have number = 2 ^ 64 - number
 
 table-requires : tie.Need-table-requires Inv-loop μ-loop
 table-requires c κs = search needs
@@ -37,9 +37,6 @@ sbox-table-requires c κs = search needs
 
 name-table-requires : tie.Need-name-table-requires Inv-loop μ-loop
 name-table-requires c κs = search needs
-
-site-holds-requires : tie.Need-site-holds-requires Inv-loop μ-loop
-site-holds-requires c κs = search needs
 
 loop-holds : tie.Need-loop-holds Inv-loop μ-loop
 loop-holds c = search needs
@@ -54,8 +51,7 @@ batch-requires : tie.Need-batch-requires Inv-loop μ-loop
 batch-requires c κs =
     let m = c .before .before .before .before .before .before .before .before .before in
     let l = m .before .before in
-    let h = l .before in
-    let n = h .before .before in
+    let n = l .before in
     (n .before .before .table .ensures, (n .before .sbox-table .ensures, (n .name-table .ensures, (l .loop .inv .valid, m .more .ensures .order, m .more .ensures .fit))))
 
 slice-reshare-prefix-write-all : tie.Need-slice-reshare-prefix-write-all Inv-loop μ-loop
@@ -68,7 +64,7 @@ write-all-requires : tie.Need-write-all-requires Inv-loop μ-loop
 write-all-requires c κs = search needs
 
 finish-requires : tie.Need-finish-requires Inv-loop μ-loop
-finish-requires c κs = omega (arith, c .before .before .before .before .before .before .before .before .before .before .batch .kept .1 .1 .1 .1 .1 .1 .1 .1 .1 .1 .0, c .before .before .before .before .before .before .before .before .before .before .before .before .before .before .before .before .before .before .before .before .before .before .loop .inv .text-long, c .before .before .before .before .before .before .before .before .before .before .before .before .before .before .before .before .before .before .before .before .before .before .before .before .before .before .before .before .before .before .before .pre)
+finish-requires c κs = omega (arith, c .before .before .before .before .before .before .before .before .before .before .batch .kept .1 .1 .1 .1 .1 .1 .1 .1 .1 .1 .0, c .before .before .before .before .before .before .before .before .before .before .before .before .before .before .before .before .before .before .before .before .before .before .loop .inv .text-long, c .before .before .before .before .before .before .before .before .before .before .before .before .before .before .before .before .before .before .before .before .before .before .before .before .before .before .before .before .before .pre)
 
 slice-reshare-prefix-write-all-2 : tie.Need-slice-reshare-prefix-write-all-2 Inv-loop μ-loop
 slice-reshare-prefix-write-all-2 c = search needs
@@ -118,7 +114,6 @@ run-spec =
     table-requires
     sbox-table-requires
     name-table-requires
-    site-holds-requires
     loop-holds
     more-requires
     slice-aggregate-batch

@@ -1,9 +1,12 @@
--- `log::start` is safe: each text lies in its buffer, and the site in the octets at hand. Assumes nothing.
+-- `log::start` is safe: each text lies in its buffer, and the site file in the octets at hand. The site that is run on is the one that the file is
+-- loaded to, and the flag tells whether it keeps its rules. Assumes nothing.
 use mathlib.Core.Path.{sym}
 use native.Mathlib.Omega.{arith}
-use lib.ListN.{length-take}
 use lib.Seq.{length-take-le}
-use Rattle.log.proofs.Openings.{site-fits}
+use Rattle.meaning.specs.Records.{widthOf, limitOf, startBy}
+use Rattle.meaning.specs.File.{fileMost}
+use Rattle.meaning.specs.Site.{placeOf, siteLen}
+use Rattle.log.proofs.Openings.{file-fits, zeros-are}
 use borrow.Author.Needs.{needs}
 use Rattle.log.proofs.start.Statement.{statement}
 use Rattle.log.proofs.start.Tie as tie
@@ -56,63 +59,51 @@ slice-aggregate-write-all-3 c = sym (length-take-le _ _ (search needs))
 write-all-requires-3 : tie.Need-write-all-requires-3
 write-all-requires-3 c κs = search needs
 
-slice-aggregate-copy-in : tie.Need-slice-aggregate-copy-in
-slice-aggregate-copy-in c = search needs
-
-add-copy-in : tie.Need-add-copy-in
-add-copy-in c =
-    let x = c .before .before .before .before in
+add-open-site : tie.Need-add-open-site
+unfolding fileMost startBy widthOf limitOf
+add-open-site c =
+    let x = c .before .before .before in
     let a = x .before .before .before .before .before .before .before .before .before .before in
-    let f = site-fits _ _ _ _ (a .pre .0) (x .before .before .beginning .ensures) (x .n .given .1) in
+    let f = file-fits _ _ _ _ (a .pre .0) (x .before .before .beginning .ensures) (x .n .given .1) in
     omega arith
 
-sub-copy-in : tie.Need-sub-copy-in
-sub-copy-in c = search needs
+sub-open-site : tie.Need-sub-open-site
+sub-open-site c = search needs
 
-part-copy-in-start : tie.Need-part-copy-in-start
-part-copy-in-start c = search needs
+part-open-site-start : tie.Need-part-open-site-start
+part-open-site-start c = search needs
 
-part-copy-in-end : tie.Need-part-copy-in-end
-part-copy-in-end c =
-    let x = c .before .before .before .before .before in
+part-open-site-end : tie.Need-part-open-site-end
+part-open-site-end c =
+    let x = c .before .before .before .before in
     let a = x .before .before .before .before .before .before .before .before .before .before in
-    let f = site-fits _ _ _ _ (a .pre .0) (x .before .before .beginning .ensures) (x .n .given .1) in
+    let f = file-fits _ _ _ _ (a .pre .0) (x .before .before .beginning .ensures) (x .n .given .1) in
     omega (arith, a .pre .0)
 
-copy-in-requires : tie.Need-copy-in-requires
-copy-in-requires c κs =
-    let x = c .before .before .before .before .before .before in
-    let a = x .before .before .before .before .before .before .before .before .before .before in
-    let f = site-fits _ _ _ _ (a .pre .0) (x .before .before .beginning .ensures) (x .n .given .1) in
-    simp length-take (omega arith)
+slice-aggregate-open-site : tie.Need-slice-aggregate-open-site
+slice-aggregate-open-site c = search needs
 
-array-borrow-prefix-space : tie.Need-array-borrow-prefix-space
-array-borrow-prefix-space c =
-    let x = c .before .before .before .before .before .before .before .before in
-    let a = x .before .before .before .before .before .before .before .before .before .before in
-    let f = site-fits _ _ _ _ (a .pre .0) (x .before .before .beginning .ensures) (x .n .given .1) in
-    omega (arith, c .before .copy-in .kept .0)
+open-site-requires : tie.Need-open-site-requires
+unfolding siteLen placeOf startBy widthOf limitOf
+open-site-requires c κs = zeros-are
 
 slice-aggregate-run : tie.Need-slice-aggregate-run
-slice-aggregate-run c =
-    let x = c .before .before .before .before .before .before .before .before .before in
-    let a = x .before .before .before .before .before .before .before .before .before .before in
-    let f = site-fits _ _ _ _ (a .pre .0) (x .before .before .beginning .ensures) (x .n .given .1) in
-    sym (length-take-le _ _ (omega (arith, c .before .before .copy-in .kept .0)))
+slice-aggregate-run c = search needs
 
 add-run : tie.Need-add-run
+unfolding fileMost startBy widthOf limitOf
 add-run c =
     let x = c .before .before .before .before .before .before .before .before .before .before in
     let a = x .before .before .before .before .before .before .before .before .before .before in
-    let f = site-fits _ _ _ _ (a .pre .0) (x .before .before .beginning .ensures) (x .n .given .1) in
+    let f = file-fits _ _ _ _ (a .pre .0) (x .before .before .beginning .ensures) (x .n .given .1) in
     omega arith
 
 run-requires : tie.Need-run-requires
 run-requires c κs =
     let x = c .before .before .before .before .before .before .before .before .before .before .before in
     let a = x .before .before .before .before .before .before .before .before .before .before in
-    let f = site-fits _ _ _ _ (a .pre .0) (x .before .before .beginning .ensures) (x .n .given .1) in
-    (f .1, a .pre .0, omega (arith, c .before .before .before .before .before .before .before .before .before .before .before .before .before .before .before .before .before .heading .kept .0, a .pre .1))
+    let f = file-fits _ _ _ _ (a .pre .0) (x .before .before .beginning .ensures) (x .n .given .1) in
+    (c .before .before .before .before .open-site .ensures .rule, (f .1, a .pre .0, omega (arith, x .before .before .before .before .before .before .heading .kept .0, a .pre .1)))
 
 same-length : tie.Need-same-length
 same-length c = search needs
@@ -161,13 +152,12 @@ start-spec =
     slice-reshare-prefix-write-all-3
     slice-aggregate-write-all-3
     write-all-requires-3
-    slice-aggregate-copy-in
-    add-copy-in
-    sub-copy-in
-    part-copy-in-start
-    part-copy-in-end
-    copy-in-requires
-    array-borrow-prefix-space
+    add-open-site
+    sub-open-site
+    part-open-site-start
+    part-open-site-end
+    slice-aggregate-open-site
+    open-site-requires
     slice-aggregate-run
     add-run
     run-requires

@@ -30,7 +30,7 @@ same-length c = search needs
 
 returns-2 : tie.Need-returns-2
 returns-2 c =
-    low-counter _ _ _ _ _ _ _ _ _ _ (c .before .before .before .before .before .before .before .before .before .before .before .pre .1 .1 .1 .0) (c .before .before .before .before .before .before .before .body-of .ensures) (c .before .before .before .before .before .counter-in .ensures) (c .before .before .device-counter .ensures) (c .before .if2 .taken) (c .refused2 .ensures)
+    low-counter _ _ _ _ _ _ _ _ _ _ (c .before .before .before .before .before .before .before .before .before .before .before .pre .1 .0) (c .before .before .before .before .before .before .before .before .before .before .before .pre .1 .1 .1 .0) (c .before .before .before .before .before .before .before .body-of .ensures) (c .before .before .before .before .before .counter-in .ensures) (c .before .before .device-counter .ensures) (c .before .if2 .taken) (c .refused2 .ensures)
 
 slice-aggregate-unlock : tie.Need-slice-aggregate-unlock
 slice-aggregate-unlock c = search needs
@@ -61,7 +61,7 @@ same-length-3 c = search needs
 
 returns-3 : tie.Need-returns-3
 returns-3 c =
-    by-counted _ _ _ _ _ _ _ _ _ _ (c .before .before .before .before .before .before .before .before .before .before .before .before .before .before .before .before .before .before .before .pre .1 .1 .1 .0) (c .before .before .before .before .before .before .before .before .before .before .before .before .before .before .before .body-of .ensures) (c .before .before .before .before .before .before .before .before .before .before .before .before .before .counter-in .ensures) (c .before .before .before .before .before .before .before .before .before .before .before .before .if1 .left)
+    by-counted _ _ _ _ _ _ _ _ _ _ (c .before .before .before .before .before .before .before .before .before .before .before .before .before .before .before .before .before .before .before .pre .1 .0) (c .before .before .before .before .before .before .before .before .before .before .before .before .before .before .before .before .before .before .before .pre .1 .1 .1 .0) (c .before .before .before .before .before .before .before .before .before .before .before .before .before .before .before .body-of .ensures) (c .before .before .before .before .before .before .before .before .before .before .before .before .before .counter-in .ensures) (c .before .before .before .before .before .before .before .before .before .before .before .before .if1 .left)
     (c .before .before .before .before .before .before .before .before .before .before .device-counter .ensures) (c .before .before .before .before .before .before .before .before .before .if2 .left) (c .before .before .before .before .before .unlock .ensures)
 
 pub settle-spec : {M : Type 1} → statement M

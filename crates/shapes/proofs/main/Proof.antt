@@ -1,8 +1,6 @@
--- `main` is safe: the site is the part that was read. Assumes nothing.
+-- `main` is safe: the file is the part that was read. Assumes nothing.
 use mathlib.Core.Path.{sym}
 use lib.Seq.{length-take-le}
-use native.Mathlib.Omega.{arith}
-use lib.ListN.{length-take}
 use borrow.Author.Needs.{needs}
 use Rattle.shapes.proofs.main.Statement.{statement}
 use Rattle.shapes.proofs.main.Tie as tie
@@ -10,26 +8,35 @@ use Rattle.shapes.proofs.main.Tie as tie
 buffer-requires : tie.Need-buffer-requires
 buffer-requires c κs = search needs
 
-slice-aggregate-read-site : tie.Need-slice-aggregate-read-site
-slice-aggregate-read-site c = search needs
+slice-aggregate-read-file : tie.Need-slice-aggregate-read-file
+slice-aggregate-read-file c = search needs
 
-read-site-requires : tie.Need-read-site-requires
-read-site-requires c κs = search needs
+read-file-requires : tie.Need-read-file-requires
+read-file-requires c κs = search needs
 
-array-share-prefix-site : tie.Need-array-share-prefix-site
-array-share-prefix-site c = search needs
+array-share-prefix-file : tie.Need-array-share-prefix-file
+array-share-prefix-file c = search needs
+
+slice-aggregate-load : tie.Need-slice-aggregate-load
+slice-aggregate-load c = sym (length-take-le _ _ (search needs))
+
+slice-aggregate-load-2 : tie.Need-slice-aggregate-load-2
+slice-aggregate-load-2 c = search needs
+
+load-requires : tie.Need-load-requires
+load-requires c κs = search needs
 
 slice-aggregate-run : tie.Need-slice-aggregate-run
-slice-aggregate-run c = sym (length-take-le _ _ (search needs))
+slice-aggregate-run c = search needs
 
 run-requires : tie.Need-run-requires
-run-requires c κs = simp length-take (omega arith)
+run-requires c κs = search needs
 
 limits-requires : tie.Need-limits-requires
 limits-requires c κs = search needs
 
-long-sites-requires : tie.Need-long-sites-requires
-long-sites-requires c κs = search needs
+long-files-requires : tie.Need-long-files-requires
+long-files-requires c κs = search needs
 
 returns : tie.Need-returns
 returns c = search needs
@@ -39,11 +46,14 @@ main-spec =
     tie.close
     (tie.spec
     buffer-requires
-    slice-aggregate-read-site
-    read-site-requires
-    array-share-prefix-site
+    slice-aggregate-read-file
+    read-file-requires
+    array-share-prefix-file
+    slice-aggregate-load
+    slice-aggregate-load-2
+    load-requires
     slice-aggregate-run
     run-requires
     limits-requires
-    long-sites-requires
+    long-files-requires
     returns)

@@ -1,6 +1,6 @@
 -- `builder::header::own_address` meets its contract, by the mode. Assumes nothing.
 use Rattle.meaning.specs.Build.{ownAddress}
-use Rattle.meaning.specs.Site.{panId, shortAddress, extendedAddress}
+use Rattle.meaning.specs.Records.{panId, shortAddress, extendedAddress}
 use Rattle.meaning.proofs.Tests.{tests}
 use borrow.Author.Needs.{needs}
 use Rattle.builder.proofs.header.own_address.Statement.{statement}

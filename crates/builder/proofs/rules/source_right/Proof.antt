@@ -1,6 +1,6 @@
 -- `builder::rules::source_right` meets its contract, by the mode. Assumes nothing.
 use Rattle.meaning.specs.Build.{sourceRight}
-use Rattle.meaning.specs.Site.{shortAddress}
+use Rattle.meaning.specs.Records.{shortAddress}
 use Rattle.meaning.proofs.Joined.{joined}
 use Rattle.meaning.proofs.Tests.{bools, lt-last}
 use borrow.Author.Needs.{needs}

@@ -1,6 +1,6 @@
 -- `extended_address` meets its contract: by the number read.
 use borrow.Author.Needs.{needs}
-use Rattle.meaning.specs.Site.{extendedAddress}
+use Rattle.meaning.specs.Records.{extendedAddress}
 use Rattle.frame.proofs.filter.extended_address.Statement.{statement}
 use Rattle.frame.proofs.filter.extended_address.Tie as tie
 

@@ -1,6 +1,6 @@
 -- `is_coordinator` meets its contract: by the octet read.
 use borrow.Author.Needs.{needs}
-use Rattle.meaning.specs.Site.{isCoordinator}
+use Rattle.meaning.specs.Records.{isCoordinator}
 use Rattle.frame.proofs.filter.is_coordinator.Statement.{statement}
 use Rattle.frame.proofs.filter.is_coordinator.Tie as tie
 

@@ -1,6 +1,6 @@
 -- `pan_id` meets its contract: by the number read.
 use borrow.Author.Needs.{needs}
-use Rattle.meaning.specs.Site.{panId}
+use Rattle.meaning.specs.Records.{panId}
 use Rattle.frame.proofs.filter.pan_id.Statement.{statement}
 use Rattle.frame.proofs.filter.pan_id.Tie as tie
 

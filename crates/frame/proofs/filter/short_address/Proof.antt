@@ -1,6 +1,6 @@
 -- `short_address` meets its contract: by the number read.
 use borrow.Author.Needs.{needs}
-use Rattle.meaning.specs.Site.{shortAddress}
+use Rattle.meaning.specs.Records.{shortAddress}
 use Rattle.frame.proofs.filter.short_address.Statement.{statement}
 use Rattle.frame.proofs.filter.short_address.Tie as tie
 

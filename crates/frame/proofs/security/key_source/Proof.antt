@@ -1,8 +1,8 @@
 -- `key_source` meets its contract: by the part given back.
 use borrow.Author.Needs.{needs}
 use Rattle.meaning.proofs.Tests.{tests}
+use Rattle.meaning.specs.Records.{defaultKeySource}
 use Rattle.meaning.specs.Steps.{keySource}
-use Rattle.meaning.specs.Site.{defaultKeySource}
 use Rattle.frame.proofs.security.key_source.Statement.{statement}
 use Rattle.frame.proofs.security.key_source.Tie as tie
 

@@ -1,4 +1,6 @@
 -- `log::beginning` meets its contract: each return by the tests on its way. Assumes nothing.
+use Rattle.meaning.specs.Records.{widthOf, limitOf, startBy}
+use Rattle.meaning.specs.File.{fileMost}
 use Rattle.log.proofs.Openings.{opening-empty, opening-long, opening-short, opening-site}
 use borrow.Author.Needs.{needs}
 use Rattle.log.proofs.input.beginning.Statement.{statement}
@@ -14,12 +16,15 @@ cast-n : tie.Need-cast-n
 cast-n c = search needs
 
 returns-2 : tie.Need-returns-2
+unfolding fileMost startBy widthOf limitOf
 returns-2 c = search opening-long
 
 returns-3 : tie.Need-returns-3
+unfolding fileMost startBy widthOf limitOf
 returns-3 c = search opening-short
 
 returns-4 : tie.Need-returns-4
+unfolding fileMost startBy widthOf limitOf
 returns-4 c = search opening-site
 
 pub beginning-spec : {M : Type 1} → statement M

@@ -1,6 +1,6 @@
 -- 13, at what the handle search found: `found-handle` and `by-handles`. Assumes nothing.
 use borrow.Author.Needs.{needs}
-use Rattle.meaning.proofs.Rows.{handle-below}
+use Rattle.search.proofs.Laws.{handle-below-by}
 use Rattle.meaning.specs.Receive.{try}
 use Rattle.meaning.proofs.Sites.{handles-in}
 use Rattle.receiver.proofs.Checks.{by-handles, found-handle}
@@ -33,7 +33,7 @@ unfolding try
 returns c = search by-handles depth 9
 
 device-of-requires : tie.Need-device-of-requires
-device-of-requires c κs = search handle-below
+device-of-requires c κs = search handle-below-by
 
 returns-2 : tie.Need-returns-2
 returns-2 c = search found-handle depth 9

@@ -1,6 +1,6 @@
 -- The device of a handle is the octet that the definition reads. Assumes nothing.
 use borrow.Author.Needs.{needs}
-use Rattle.meaning.specs.Steps.{handleOf}
+use Rattle.meaning.specs.Records.{handleAt}
 use Rattle.search.proofs.handles.device_of.Statement.{statement}
 use Rattle.search.proofs.handles.device_of.Tie as tie
 
@@ -17,7 +17,7 @@ wide-requires : tie.Need-wide-requires
 wide-requires c κs = search needs
 
 returns : tie.Need-returns
-unfolding handleOf
+unfolding handleAt
 returns c = c .wide .ensures
 
 pub device-of-spec : {M : Type 1} → statement M

@@ -5,8 +5,8 @@ use Prim.Native.Nat.{_*_, _-_}
 use native.Mathlib.Omega.{arith}
 use lib.ListN.{getD}
 use lib.Dec.{eqb}
-use Rattle.meaning.specs.Site.{deviceAt}
-use Rattle.meaning.specs.Steps.{isPeer, handleOf}
+use Rattle.meaning.specs.Records.{deviceAt, handleAt}
+use Rattle.meaning.specs.Steps.{isPeer}
 use Rattle.meaning.specs.declared.Found.the-variants.{At, Nothing}
 use Rattle.meaning.proofs.Scan.{Passed, passed-none, passed-more, is-none}
 use Rattle.meaning.proofs.Tests.{compared, eq-by, and-on, and-left, and-right}
@@ -16,7 +16,7 @@ use Rattle.search.proofs.handles.handle_row.Tie as tie
 
 abbrev Inv-loop : tie.InvT-loop
 Inv-loop handles devices key p n j₀ j =
-    Passed (λ k. eqb (getD handles (2 * k) 0) key && isPeer p (deviceAt devices (handleOf handles k))) At Nothing n j
+    Passed (λ k. eqb (getD handles (2 * k) 0) key && isPeer p (deviceAt devices (handleAt handles k .device))) At Nothing n j
 
 abbrev μ-loop : tie.MeasureT-loop
 μ-loop handles devices key p n j₀ j = n - j

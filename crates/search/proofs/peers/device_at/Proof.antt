@@ -1,6 +1,6 @@
 -- `search::device_at` meets its contract: field by field. Assumes nothing.
 use borrow.Author.Needs.{needs}
-use Rattle.meaning.specs.Site.{deviceAt}
+use Rattle.meaning.specs.Records.{deviceAt}
 use Rattle.search.proofs.peers.device_at.Statement.{statement}
 use Rattle.search.proofs.peers.device_at.Tie as tie
 

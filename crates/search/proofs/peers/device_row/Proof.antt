@@ -1,7 +1,7 @@
 -- `search::device_row` meets its contract. The loop's invariant: the devices passed are not the peer. Assumes nothing.
 use Prim.Native.Nat.{_-_}
 use native.Mathlib.Omega.{arith}
-use Rattle.meaning.specs.Site.{deviceAt}
+use Rattle.meaning.specs.Records.{deviceAt}
 use Rattle.meaning.specs.Steps.{isPeer}
 use Rattle.meaning.specs.declared.Found.the-variants.{At, Nothing}
 use Rattle.meaning.proofs.Scan.{Passed, passed-none, passed-more, is-none}

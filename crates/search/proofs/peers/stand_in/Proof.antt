@@ -1,6 +1,6 @@
 -- `search::stand_in` meets its contract: each return by the tests on the coordinator's short address. Assumes nothing.
 use borrow.Author.Needs.{needs}
-use Rattle.meaning.specs.Site.{panId, coordinatorShort, coordinatorExtended}
+use Rattle.meaning.specs.Records.{panId, coordinatorShort, coordinatorExtended}
 use Rattle.meaning.specs.Steps.{standIn}
 use Rattle.search.proofs.peers.stand_in.Statement.{statement}
 use Rattle.search.proofs.peers.stand_in.Tie as tie
