@@ -19,7 +19,7 @@ use Rattle.meaning.specs.declared.Refusal.the-variants.{Site, Room}
 use Rattle.meaning.proofs.Stores.{sets-whole}
 use Rattle.meaning.proofs.Tabs.{tab-of, length-tab}
 use Rattle.meaning.proofs.Records.{records-whole}
-use Rattle.meaning.proofs.Regions.{place-inside, place-past, fits, width-some}
+use Rattle.meaning.proofs.Regions.{place-inside, fits, width-some}
 use Rattle.meaning.proofs.Written.{with-length}
 use Rattle.meaning.proofs.Files.{length-file, contents-limit, file-contents}
 use Rattle.meaning.proofs.Bridges as B
@@ -30,15 +30,12 @@ cleared s d e =
     e ∙ sets-whole (tab (λ k. 0) (length s)) s (sym (length-tab (λ k. 0) (length s)))
     ∙ sym (tab-of (λ k. 0) 0 (length s) (replicate (length s) 0) (length-replicate (length s) 0) (λ j h. getD-replicate (length s) j 0 0 h))
 
--- a table of the file fits its region
-pub table-fits : (f m x b : List ℕ) (k n a : ℕ) → fileRule f ≡ true → length m ≡ siteLen → k < kinds → x ≡ sets m (2 * k) (octs 2 n) → b ≡ fileBody f k → a ≡ placeOf k
+-- the records of a kind fit its region, after any store
+pub table-fits : (f m x xs b : List ℕ) (k i a : ℕ) → fileRule f ≡ true → length m ≡ siteLen → k < kinds → x ≡ sets m i xs → b ≡ fileBody f k → a ≡ placeOf k
     → a + length b ≤ length x
-table-fits f m x b k n a rule long h dx e d =
-    rw (e, d, dx, length-sets m (2 * k) (octs 2 n), length-file f (file-contents f rule) k h)
+table-fits f m x xs b k i a rule long h dx e d =
+    rw (e, d, dx, length-sets m i xs, length-file f (file-contents f rule) k h)
     (omega (arith, place-inside k h, fits k (fileCount f k) (contents-limit f (file-contents f rule) k h)))
-
-pub count-fits : (m : List ℕ) (k : ℕ) → length m ≡ siteLen → k < kinds → 2 * k + 2 ≤ length m
-count-fits m k long h = omega (arith, place-past k, place-inside k h)
 
 pub table-put : (f m x y b : List ℕ) (k n a : ℕ) → fileRule f ≡ true → k < kinds → n ≡ fileCount f k → x ≡ sets m (2 * k) (octs 2 n) → a ≡ placeOf k → b ≡ fileBody f k
     → y ≡ sets x a b → y ≡ withBody m k (fileBody f k)

@@ -1,11 +1,13 @@
 -- `load::put_table` meets its contract: a count and a body are stored. Assumes nothing.
 use borrow.Author.Needs.{needs}
-use Rattle.load.proofs.Loads.{table-fits, count-fits, table-put}
+use native.Mathlib.Omega.{arith}
+use Rattle.meaning.proofs.Regions.{header-inside}
+use Rattle.load.proofs.Loads.{table-fits, table-put}
 use Rattle.load.proofs.put_table.Statement.{statement}
 use Rattle.load.proofs.put_table.Tie as tie
 
 put16-requires : tie.Need-put16-requires
-put16-requires c κs = search count-fits
+put16-requires c κs = omega (arith, header-inside)
 
 copy-in-requires : tie.Need-copy-in-requires
 copy-in-requires c κs = search table-fits
