@@ -3,7 +3,7 @@ use borrow.Author.Needs.{needs}
 use native.Mathlib.Omega.{arith}
 use Prim.Native.Nat.{_+_, _*_, _-_, _≤_}
 use mathlib.Core.Path.{_≡_}
-use Rattle.meaning.specs.File.{startOf, entryRight, contentsRight}
+use Rattle.meaning.specs.File.{contentsLen, startOf, entryRight, contentsRight}
 use Rattle.meaning.proofs.Joined.{joined}
 use Rattle.meaning.proofs.Scan.{Kept, kept-none, every-fails, every-more}
 use Rattle.records.proofs.Laws.{sides}
@@ -13,7 +13,7 @@ use Rattle.file.proofs.contents.contents_right.Statement.{statement}
 use Rattle.file.proofs.contents.contents_right.Tie as tie
 
 abbrev Inv-loop : tie.InvT-loop
-Inv-loop file kind₀ start₀ kind start = Kept (entryRight file) kinds kind × ((start ≡ startOf file kind) × (start ≤ 42 + kind * 4294967296))
+Inv-loop file kind₀ start₀ kind start = Kept (entryRight file) kinds kind × ((start ≡ startOf file kind) × (start ≤ contentsLen + kind * 4294967296))
 
 abbrev μ-loop : tie.MeasureT-loop
 μ-loop file kind₀ start₀ kind start = kinds - kind
