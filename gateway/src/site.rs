@@ -53,8 +53,11 @@ impl Site {
         if !raw::site_holds(octets) {
             return Err(SiteError::Octets);
         }
-        let octets = octets.try_into().map_err(|_| SiteError::Octets)?;
-        Ok(Site { octets: Box::new(octets) })
+        // Copied straight into its place; octets that keep the rules have the
+        // length of a site.
+        let mut kept = Box::new([0; SITE_LEN]);
+        kept.copy_from_slice(octets);
+        Ok(Site { octets: kept })
     }
 
     /// The site's octets, to be kept over a restart. They hold the keys and
