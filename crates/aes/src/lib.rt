@@ -1,5 +1,7 @@
 // AES-128 (FIPS 197), encryption. The S-box is a table that is made once and lent to the functions that look octets up.
 // Read sbox, field and word, then keys and rounds.
+#![tactic(auto)]
+
 mod field;
 mod keys;
 mod rounds;

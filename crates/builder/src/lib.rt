@@ -1,5 +1,7 @@
 // Builds a frame by a request, secured where its level is above 0, and raises the own counter of the site for a secured one.
-// Clients cite `built` and `builtValid` of the meaning's Build.
+// Clients cite `built` and `built_valid` of the meaning's Build.
+#![tactic(auto)]
+
 mod decision;
 mod frames;
 mod header;

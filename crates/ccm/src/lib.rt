@@ -1,6 +1,8 @@
 // CCM* (standard, Annex B) over AES-128: nonce, tag, key stream; sealing a frame in place, and opening one into a scratch buffer.
 // The S-box `t` and the key's schedule `w` are made once by the crate aes and lent; no function changes them.
 // Clients cite specs/Ccm.antt of the meaning and specs/Tags.antt here.
+#![tactic(auto)]
+
 mod formatting;
 mod mac;
 mod sealing;

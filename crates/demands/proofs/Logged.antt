@@ -57,9 +57,9 @@ pub inputs-differ : input_a ≢ input_b
 unfolding input_of octs
 inputs-differ e = let z : ◌≡◌ {A = ℕ} 0xc0 0x30 = ap (λ (i : List ℕ). get_or i 101 0) e in omega arith
 
-pub lines_same : printed input_a ≡ printed input_b
+pub lines-same : printed input_a ≡ printed input_b
 unfolding SameLines
-lines_same = same-lines input_a input_b inputs-alike
+lines-same = same-lines input_a input_b inputs-alike
 
 -- the first answer, by its outcome, and the others
 answers_of : (s f o : List ℕ) (fs : List (List ℕ)) (x : Outcome) (r : List Received) → received s f o ≡ x → answers x.site x.out fs ≡ r

@@ -62,7 +62,7 @@ use Rattle.meaning.specs.declared.Request.{Request}
 pub listed : (r : Refusal) → (1 ≤ number r) × (number r ≤ 17)
 unfolding number
 listed r =
-    elim r [
+    elim r as (λ v. (1 ≤ number v) × (number v ≤ 17)) [
       | Site ↦ omega arith
       | Room ↦ omega arith
       | Length ↦ omega arith

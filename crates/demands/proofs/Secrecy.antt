@@ -304,7 +304,7 @@ all m s t o p [] (g ∷ gs) st ps = ps
 all m s t o p (f ∷ fs) [] st ps = ps
 all m s t o p (f ∷ fs) (g ∷ gs) st ps =
     let r : Agreed (max m (received s f o).answer.private) f g (received s f o) (received t g p) = one m s t f g o p st ps.0 in
-    (r, all _ _ _ _ _ fs gs (record { sites = r.sites; rooms = r.rooms; outs = r.outs }) ps.1)
+    (r, all (max m (received s f o).answer.private) _ _ _ _ fs gs (record { sites = r.sites; rooms = r.rooms; outs = r.outs }) ps.1)
 
 pub secrecy : Secret
 unfolding Secret

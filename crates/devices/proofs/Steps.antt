@@ -1,4 +1,4 @@
--- The laws of a search in steps: of the handle search, and that the trials lead to `handleRowBy`. Assumes nothing.
+-- The laws of a search in steps: of the handle search, and that the trials lead to `handle_row_by`. Assumes nothing.
 use mathlib.Core.Path.{◌≡◌, refl, ap, sym, ◌∙◌}
 use mathlib.Core.Bool.{Bool, true, false, ◌&&◌}
 use mathlib.Core.List.{List}
@@ -47,7 +47,7 @@ no z = let w : ◌≡◌ {A = ℕ} 0 1 = cc in omega arith
 both-of : (a b : Bool) → a ≡ true → (a && b) ≡ b
 both-of a b e = rw e
 
--- ---- the trials lead to `handleRowBy`
+-- ---- the trials lead to `handle_row_by`
 module _ (ds : List Device) (hs : List ℕ) (s : Sought) where
   abbrev Handle : ℕ → Bool
   Handle k = is_handle hs s.key k

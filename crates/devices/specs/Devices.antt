@@ -1,5 +1,5 @@
 -- The search of device records through the handles of a key, in steps. Assumes nothing: these are definitions.
--- What is right is the meaning's `handleRow`, here over the body of the handles (`handleRowBy`): a handle is two octets, a key's number and a device's.
+-- What is right is the meaning's `handle_row`, here over the body of the handles (`handle_row_by`): a handle is two octets, a key's number and a device's.
 -- handle_from   the trial of the key's first handle from a number on
 -- tried_of      the trial after one that was tried
 -- answer_of     the answer where the search is over

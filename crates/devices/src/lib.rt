@@ -1,6 +1,8 @@
-// Device records lent as a slice of structs, tried in the order of the key's handles. The search of the handle table, which is
-// octets, and the comparison are covered; the layer over the slice of structs is proved by hand. Nothing that is lent changes.
+// Device records lent as a slice of structs, tried in the order of the key's handles: a thin layer over the search of the handle table,
+// which is octets, and the comparison. Nothing that is lent changes.
 // Clients call `find_in`, whose parameters are plain: it gives the answer of search::handle_row, for every key and peer; or `find_at`, which asks nothing of them.
+#![tactic(auto)]
+
 ghost use Rattle.std.specs.Prelude.{◌≡◌, ℕ, ◌+◌, ◌*◌, ◌/◌, ◌≤◌, ◌<◌, length, get_or};
 ghost use Rattle.meaning.specs.Records.{records, no_device, devices_in, handles_in};
 ghost use Rattle.meaning.specs.Steps.{handle_row};
@@ -10,14 +12,14 @@ ghost use Rattle.devices.specs.Devices.{handle_from, tried_of, answer_of, device
 use meaning::{Address, Device, Found};
 
 // Whose record is sought, by which key.
-#[derive(Drop)]
+#[derive(Clone, Copy)]
 pub struct Sought {
     pub key: usize,
     pub peer: Address,
 }
 
 // How far a search has come: a handle whose device is to be tried, or the end of the search.
-#[derive(Drop)]
+#[derive(Clone, Copy)]
 pub struct Trial {
     pub more: bool,
     pub found: bool,

@@ -1,4 +1,6 @@
 // The frame check sequence (standard 5.2.1.9), summed by a table of 256 entries, one octet after the other.
+#![tactic(auto)]
+
 mod entries;
 
 ghost use Rattle.std.specs.Prelude.{◌≡◌};

@@ -1,5 +1,7 @@
 // The site file: whether octets keep its rules, and where its records lie.
-// Clients cite `fileRule`, `fileCount` and `fileBody` of the meaning's File.
+// Clients cite `file_rule`, `file_count` and `file_body` of the meaning's File.
+#![tactic(auto)]
+
 mod contents;
 
 ghost use Rattle.std.specs.Prelude.{◌≡◌, true, ◌<◌};

@@ -1,6 +1,8 @@
 // Dividing a frame (standard 5.2, 7.4), its header and security header, and the filter.
 // No function changes what it is lent; reading past the end of a slice gives 0, as the definitions say.
 // Clients cite specs/Frame.antt, Filter.antt and Steps.antt of the meaning; open_payload is of specs/Parts.antt here.
+#![tactic(auto)]
+
 mod control;
 mod division;
 mod filter;

@@ -1,5 +1,7 @@
 // The lines of the log, put into a lent buffer at a place. Each function answers the place after its line and changes no other octet;
 // specs/Text.antt has the lines.
+#![tactic(auto)]
+
 ghost use Rattle.std.specs.Prelude.{◌≡◌, [], ◌∷◌, ◌+◌, ◌≤◌, ◌<◌, length};
 ghost use Rattle.lines.specs.Text.{Put, Near, IsNames, Named, statuses, decimal, heading, line_of, cut_line, site_line};
 

@@ -1,5 +1,7 @@
 // Loading a site file into a site: the only bridge between the two.
-// Clients cite `loaded` and `siteFrom` of the meaning's Loading, and the laws of its proofs/Bridges.antt.
+// Clients cite `loaded` and `site_from` of the meaning's Loading, and the laws of its proofs/Bridges.antt.
+#![tactic(auto)]
+
 ghost use Rattle.std.specs.Prelude.{◌≡◌, true, ◌<◌, length, replicate};
 ghost use Rattle.meaning.specs.Records.{kinds};
 ghost use Rattle.meaning.specs.File.{file_body, file_rule};

@@ -1,11 +1,13 @@
 // Security levels and address modes: what their numbers say. Clients cite specs/Frame.antt of the meaning.
+#![tactic(auto)]
+
 ghost use Rattle.std.specs.Prelude.{◌≡◌};
 ghost use Rattle.meaning.specs.Frame.{absent, address_len, tag_len, enciphers, at_least};
 
 use meaning::Address;
 
 // One of the eight security levels (standard, Table 58), by its number; they stand under two orders at once.
-#[derive(Drop)]
+#[derive(Clone, Copy)]
 pub struct Level(pub u8);
 
 impl Level {

@@ -1,7 +1,7 @@
 -- The fields of a header, one after the other. Assumes nothing: these are definitions.
 -- field_at    the number in n octets at a place, and the place after it
 -- raw_of      the fields that a reader reads in their order
--- fields_of   sequence number and addresses, as the meaning's `headerOf` has them
+-- fields_of   sequence number and addresses, as the meaning's `header_of` has them
 use Rattle.std.specs.Prelude.{ℕ, ◌+◌, ◌-◌, ◌%◌, List, length, get_or, ltb, leb, eqb}
 use Rattle.std.specs.Borrow.{Bor}
 use Rattle.meaning.specs.Octets.{pick, le_at}

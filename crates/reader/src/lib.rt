@@ -1,6 +1,8 @@
 // A reader of a frame's header: it holds the frame and a place in it, and is thin over the covered cursor function.
 // Octets past the end read as 0, so a place past the end is as good as any other. No function changes what it is lent.
 // Clients call `read_fields`, whose parameters are plain, and cite specs/Fields.antt.
+#![tactic(auto)]
+
 ghost use Rattle.std.specs.Prelude.{◌≡◌, ◌<◌, ◌%◌, length, eqb};
 ghost use Rattle.meaning.specs.Octets.{pick};
 ghost use Rattle.reader.specs.Fields.{number_at, field_at, reader_at, pan_len, widths_of, raw_of, address_of, fields_of};
@@ -9,7 +11,7 @@ use meaning::Address;
 use modes::address_len;
 
 // A field that was read: its number, and the place after it.
-#[derive(Drop)]
+#[derive(Clone, Copy)]
 pub struct Field {
     pub value: u64,
     pub next: usize,
@@ -52,7 +54,7 @@ pub fn field_at(src: &[u8], at: usize, n: usize) -> Field
     }
 }
 
-#[derive(Drop)]
+#[derive(Clone, Copy)]
 pub struct Reader<'a> {
     pub src: &'a [u8],
     pub at: usize,
@@ -85,7 +87,7 @@ impl<'a> Reader<'a> {
 }
 
 // How many octets each address field has.
-#[derive(Drop)]
+#[derive(Clone, Copy)]
 pub struct Widths {
     pub destinationpan: usize,
     pub destination: usize,
@@ -94,7 +96,7 @@ pub struct Widths {
 }
 
 // The fields as they stand one after the other; `pan` is the first two octets after the sequence number, whosever they are.
-#[derive(Drop)]
+#[derive(Clone, Copy)]
 pub struct Raw {
     pub sequence: Field,
     pub pan: Field,
@@ -191,7 +193,7 @@ fn origin(compression: u8, pan: Field, sourcepan: Field) -> u64
 }
 
 // Sequence number and addresses.
-#[derive(Drop)]
+#[derive(Clone, Copy)]
 pub struct Fields {
     pub sequence: u8,
     pub destination: Address,

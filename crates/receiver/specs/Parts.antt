@@ -1,12 +1,12 @@
 -- What the parts of receiving promise. Assumes nothing: these are definitions.
-use Rattle.std.specs.Prelude.{ℕ, suc, ◌+◌, ◌≡◌, Bool, List, get_or, take, drop, eqb}
+use Rattle.std.specs.Prelude.{ℕ, suc, ◌+◌, ◌≡◌, Bool, List, take, drop, eqb}
 use Rattle.meaning.specs.Octets.{pick, beside}
 use Rattle.meaning.specs.Fcs.{inner}
 use Rattle.meaning.specs.Frame.{level_of, counter_of, view, open_end, private_len}
 use Rattle.meaning.specs.Ccm.{nonce_of, Opened, unsealed}
 use Rattle.meaning.specs.Records.{devices, keys, key_at, device_at}
 use Rattle.meaning.specs.Site.{body, store_of}
-use Rattle.meaning.specs.Receive.{report, private_of, opened, Raise, raise, raised_in, tagged, settle, Outcome, outcome, write}
+use Rattle.meaning.specs.Receive.{report, private_of, opened, raise, raised_in, tagged, settle, Outcome, outcome, write}
 use Rattle.meaning.specs.declared.Judged.{Judged}
 use Rattle.meaning.specs.declared.Received.{Received}
 

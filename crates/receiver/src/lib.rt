@@ -1,5 +1,7 @@
 // Receiving a frame. Everything before the last step works on what is lent to be read; nothing is deciphered into lent memory
 // before the tag is known, and the counter is raised only with an accepted frame.
+#![tactic(auto)]
+
 ghost use Rattle.std.specs.Prelude.{◌≡◌, true, ◌+◌, ◌≤◌, ◌<◌, length};
 ghost use Rattle.meaning.specs.Records.{devices, keys};
 ghost use Rattle.meaning.specs.Fcs.{IsTable, inner};

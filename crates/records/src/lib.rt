@@ -1,5 +1,7 @@
 // The records of the seven kinds, as the file and the site have them: their names, lengths and limits, and their rules.
-// Clients cite `tablesRule`, `width_of`, `limitOf` and `leastOf` of the meaning's Records.
+// Clients cite `tables_rule`, `width_of`, `limit_of` and `least_of` of the meaning's Records.
+#![tactic(auto)]
+
 mod clashes;
 mod rules;
 

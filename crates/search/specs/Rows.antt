@@ -1,7 +1,7 @@
 -- The key lookup over the key source compared, and the search through handles in octets. Assumes nothing: these are definitions.
 -- implicit_row   key mode 0: the first lookup record of the peer
 -- key_row_by      the first lookup record that matches; in modes 1 to 3 by the source given
--- handle_row_by   `handleRow` over the body of the handles
+-- handle_row_by   `handle_row` over the body of the handles
 use Rattle.std.specs.Prelude.{ℕ, ◌+◌, ◌*◌, ◌&&◌, List, eqb, get_or}
 use Rattle.meaning.specs.Octets.{pick, first}
 use Rattle.meaning.specs.Records.{records, no_device}

@@ -1,5 +1,7 @@
 // The searches of 'The security steps': the first record that fits, in the order of its table. Each takes the body of its own kind, whole records and no more, and changes nothing.
 // Clients cite specs/Steps.antt of the meaning; key_row_by is of specs/Rows.antt here.
+#![tactic(auto)]
+
 mod handles;
 mod keys;
 mod levels;

@@ -1,0 +1,17 @@
+-- `aes::keys::other_words` meets its contract: an octet more a turn. Assumes nothing.
+use mathlib.Core.Path.{◌≡◌, refl}
+use native.Mathlib.Omega.{arith}
+use Rattle.aes.specs.Schedule.{grown}
+use Rattle.aes.proofs.Expansion.{other-made}
+use Rattle.aes.proofs.keys.other_words.Goals as goal
+
+pub loop-j-init : goal.loop-j-init
+unfolding grown
+loop-j-init c = (omega arith, refl)
+
+pub loop-j-preserved : goal.loop-j-preserved
+loop-j-preserved c = (omega arith, other-made _ c.loop-j.w c.args.n c.loop-j.j (omega arith) c.loop-j.invariant.1)
+
+pub returns : goal.returns
+returns c = let j : c.loop-j.j ≡ 12 = omega arith in
+    rw j at c.loop-j.invariant.1

@@ -1,0 +1,7 @@
+-- `octet` meets its contract: past the end the definition gives 0. Assumes nothing.
+use mathlib.Core.Path.{sym}
+use lib.ListN.{get_or-eq_default}
+use Rattle.octets.proofs.octet.Goals as goal
+
+pub returns-else-at-s : goal.returns-else-at-s
+returns-else-at-s c = sym (get_or-eq_default c.args.s.now 0 c.if-at-s.false)
