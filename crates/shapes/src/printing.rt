@@ -1,30 +1,28 @@
 // Prints numbers, each with a blank behind it.
-use libc::STDOUT_FILENO;
+use std::io::{self, Write};
 
 // Prints a number and a blank.
-fn number(n: u64) {
-    io::print_decimal(STDOUT_FILENO, n);
-    io::write_all(STDOUT_FILENO, b" ");
+fn number(told: &mut impl Write, n: u64) -> io::Result<()> {
+    write!(told, "{n} ")
 }
 
-pub fn octet_number(x: u8) {
-    number(x as u64);
+pub fn octet_number(told: &mut impl Write, x: u8) -> io::Result<()> {
+    number(told, x as u64)
 }
 
-pub fn size_number(n: usize) {
-    number(n as u64);
+pub fn size_number(told: &mut impl Write, n: usize) -> io::Result<()> {
+    number(told, n as u64)
 }
 
-pub fn hex_number(x: u16) {
-    io::print_hex(STDOUT_FILENO, x as u64, 4);
-    io::write_all(STDOUT_FILENO, b" ");
+pub fn hex_number(told: &mut impl Write, x: u16) -> io::Result<()> {
+    write!(told, "{x:04x} ")
 }
 
 // Prints whether two things are the same.
-pub fn same_or_not(same: bool) {
+pub fn same_or_not(told: &mut impl Write, same: bool) -> io::Result<()> {
     if same {
-        io::write_all(STDOUT_FILENO, b"same ");
+        told.write_all(b"same ")
     } else {
-        io::write_all(STDOUT_FILENO, b"other ");
+        told.write_all(b"other ")
     }
 }

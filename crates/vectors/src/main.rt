@@ -1,11 +1,15 @@
 // Runs published vectors of AES-128 and CCM* through the proved cipher. They come on standard input, in records of 208 octets that
 // `layout.txt` describes; each gives a line, its title and `ok` or `differs`, and the last line has the counts.
+#![tactic(auto)]
+
 mod checks;
+mod input;
 mod records;
 
 use checks::record_holds;
-use libc::{STDIN_FILENO, STDOUT_FILENO};
+use input::read_full;
 use records::fill;
+use std::io::{self, Read, Write};
 
 // How a record came out.
 #[derive(Drop)]
@@ -16,41 +20,40 @@ pub enum Outcome {
 }
 
 // Prints a record's title.
-fn title(vector: &[u8]) {
+fn title(out: &mut impl Write, vector: &[u8]) -> io::Result<()> {
     let mut text = [b' '; 28];
     fill(&mut text, vector, 4);
-    io::write_all(STDOUT_FILENO, &text);
+    out.write_all(&text)
 }
 
 // Reads a record, tries it and prints its line.
-fn next() -> Outcome {
+fn next(input: &mut impl Read, out: &mut impl Write) -> io::Result<Outcome> {
     let mut vector = [0u8; 208];
-    if io::read_full(STDIN_FILENO, &mut vector) < 208 {
-        return Outcome::End;
+    if read_full(input, &mut vector)? < 208 {
+        return Ok(Outcome::End);
     }
-    title(&vector);
+    title(out, &vector)?;
     if record_holds(&vector) {
-        io::write_all(STDOUT_FILENO, b"ok\n");
-        return Outcome::Holds;
+        out.write_all(b"ok\n")?;
+        return Ok(Outcome::Holds);
     }
-    io::write_all(STDOUT_FILENO, b"differs\n");
-    Outcome::Differs
+    out.write_all(b"differs\n")?;
+    Ok(Outcome::Differs)
 }
 
-fn total(held: u64, differed: u64) {
-    io::print_decimal(STDOUT_FILENO, held);
-    io::write_all(STDOUT_FILENO, b" ok, ");
-    io::print_decimal(STDOUT_FILENO, differed);
-    io::write_all(STDOUT_FILENO, b" differ\n");
+fn total(out: &mut impl Write, held: u64, differed: u64) -> io::Result<()> {
+    writeln!(out, "{held} ok, {differed} differ")
 }
 
-fn main() {
+fn main(rt: HostRuntime) -> io::Result<()> {
+    let mut input = rt.stdin();
+    let mut out = rt.stdout();
     let mut held: u64 = 0;
     let mut differed: u64 = 0;
     let mut turns: u64 = 10000;
     while 0 < turns {
         turns -= 1;
-        match next() {
+        match next(&mut input, &mut out)? {
             Outcome::Holds => {
                 held += 1;
             }
@@ -62,5 +65,5 @@ fn main() {
             }
         }
     }
-    total(held, differed);
+    total(&mut out, held, differed)
 }

@@ -1,4 +1,0 @@
-pub mod Hands
-pub mod Batches
-pub mod Openings
-pub mod Replies
