@@ -1,5 +1,5 @@
-//! Links the archive that `rt staticlib export` writes at the repository's
-//! root, on x86-64, or the one in the folder that WIRDHALEF_ARCHIVE names.
+//! Links the archive that `tools/archive` writes at the repository's root, on
+//! x86-64, or the one in the folder that WIRDHALEF_ARCHIVE names.
 
 use std::env;
 use std::path::{Path, PathBuf};

@@ -10,9 +10,9 @@
 //!   many frames; for counting instructions (`tools/instructions`).
 //! - `... bench log`: the second implementation's log program.
 //!
-//! The log program is run where it was built, `target/bin/log` at the
-//! repository's root; WIRDHALEF_EMULATOR may name a command that runs it and
-//! this program.
+//! The log program is run where it was built,
+//! `crates/frame_log/out/frame_log`; WIRDHALEF_EMULATOR may name a command
+//! that runs it and this program.
 
 #[path = "../tests/common/mod.rs"]
 mod common;
@@ -237,7 +237,7 @@ fn run(program: &str, words: &[&str], input: &Path) {
 /// start.
 fn time_logs() {
     if !Path::new(LOG).exists() {
-        println!("no log program: `rt check log` builds it");
+        println!("no log program: `./read-log` builds it");
         return;
     }
     let own = env::current_exe().expect("this program");

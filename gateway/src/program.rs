@@ -2,15 +2,15 @@
 //! code behind a pipe. For tests on machines that cannot link the archive.
 //!
 //! `second/src/testkit/answers.rs` has the layout of what passes. The program
-//! is `target/bin/answers` at the repository's root; WIRDHALEF_EMULATOR names
-//! the command that runs it.
+//! is run where `rt ci` and `rt run` build it, in `crates/answers/out`;
+//! WIRDHALEF_EMULATOR names the command that runs it.
 
 use std::cell::RefCell;
 use std::env;
 use std::io::{Read, Write};
 use std::process::{Child, ChildStdin, ChildStdout, Command, Stdio};
 
-const PROGRAM: &str = concat!(env!("CARGO_MANIFEST_DIR"), "/../target/bin/answers");
+const PROGRAM: &str = concat!(env!("CARGO_MANIFEST_DIR"), "/../crates/answers/out/answers");
 /// The program's room for an item's parts, for the output and for the site.
 const PARTS_LEN: usize = 4096;
 const OUT_LEN: usize = 512;

@@ -1,6 +1,6 @@
 //! The log program beside the second implementation. It is run where it was
-//! built, `target/bin/log` at the repository's root; WIRDHALEF_EMULATOR may
-//! name a command that runs it.
+//! built, `crates/frame_log/out/frame_log`; WIRDHALEF_EMULATOR may name a
+//! command that runs it.
 
 mod common;
 
@@ -15,7 +15,7 @@ use second::testkit::{hex, log_input, log_of, FileBreakage, Rng, SiteSpec};
 
 /// What the program writes for an input.
 fn printed(input: &[u8]) -> Vec<u8> {
-    assert!(Path::new(LOG).exists(), "`rt check log` builds the log program");
+    assert!(Path::new(LOG).exists(), "`./read-log` builds the log program");
     let mut child = command(LOG)
         .stdin(Stdio::piped())
         .stdout(Stdio::piped())

@@ -1,5 +1,8 @@
 // Loading, receiving, building and the site's rules for programs in other languages, over octets alone. No function asks anything of its caller.
-// Clients cite specs/Boundary.antt, and specs/Packed.antt for answers and requests in octets; include/wirdhalef.h is the manual.
+// Clients cite specs/Boundary.antt, and specs/Packed.antt for answers and requests in octets; include/wirdhalef.h is the manual. The crate
+// export_c has the same functions for C.
+#![tactic(auto)]
+
 mod many;
 mod packed;
 
@@ -13,16 +16,14 @@ ghost use Rattle.export.specs.Boundary.{exchange, received_by, open_place, place
 use meaning::Cuts;
 
 // Loads a site file into a site: 0, or 1 where the file breaks a rule, or 2 where the site has not a site's length; then nothing changes.
-#[unsafe(no_mangle)]
-pub extern "C" fn wirdhalef_load(file: &[u8], site: &mut [u8]) -> u8
+pub fn wirdhalef_load(file: &[u8], site: &mut [u8]) -> u8
     ensures { bridged result site.new ≡ loaded file.now site.old }
 {
     load::load(file, site)
 }
 
 // 1 where the site keeps its rules, else 0; nothing changes.
-#[unsafe(no_mangle)]
-pub extern "C" fn wirdhalef_site_holds(site: &[u8]) -> u8
+pub fn wirdhalef_site_holds(site: &[u8]) -> u8
     ensures { result ≡ bit (site_rule site.now) }
 {
     if site::site_holds(site) {
@@ -33,13 +34,7 @@ pub extern "C" fn wirdhalef_site_holds(site: &[u8]) -> u8
 
 // The status of a received frame; its whole answer stands in the first 48 octets of `answer`, and `site` and `out` change as receiving
 // says. With an answer buffer of less than 48 octets the status is 2 and nothing changes.
-#[unsafe(no_mangle)]
-pub extern "C" fn wirdhalef_receive(
-    site: &mut [u8],
-    frame: &[u8],
-    out: &mut [u8],
-    answer: &mut [u8],
-) -> u8
+pub fn wirdhalef_receive(site: &mut [u8], frame: &[u8], out: &mut [u8], answer: &mut [u8]) -> u8
     ensures { exchange result site.new out.new answer.new ≡ received_by site.old frame.now out.old answer.old }
 {
     if answer.len() < 48 {
@@ -59,8 +54,7 @@ fn place_in(c: Cuts) -> u32
 }
 
 // Where the open payload of a frame with its FCS stands: its start times 65536 and its length; 0 where the frame cannot be divided.
-#[unsafe(no_mangle)]
-pub extern "C" fn wirdhalef_open_payload(frame: &[u8]) -> u32
+pub fn wirdhalef_open_payload(frame: &[u8]) -> u32
     ensures { result ≡ open_place frame.now }
 {
     if frame.len() < 5 {
@@ -79,8 +73,7 @@ pub extern "C" fn wirdhalef_open_payload(frame: &[u8]) -> u32
 
 // The status of a build request and 256 times the length of its frame, which stands in front of `out`; the request stands in 28 octets,
 // those that are missing count as 0. `site` changes as building says; a refusal changes nothing.
-#[unsafe(no_mangle)]
-pub extern "C" fn wirdhalef_build(
+pub fn wirdhalef_build(
     site: &mut [u8],
     request: &[u8],
     opens: &[u8],
@@ -96,8 +89,7 @@ pub extern "C" fn wirdhalef_build(
 
 // How many of the frames are accepted, each a length octet and its octets, received one after the other up to the first that is cut.
 // Where the site breaks its rules the number is 0 and nothing changes.
-#[unsafe(no_mangle)]
-pub extern "C" fn wirdhalef_receive_many(site: &mut [u8], frames: &[u8], out: &mut [u8]) -> u64
+pub fn wirdhalef_receive_many(site: &mut [u8], frames: &[u8], out: &mut [u8]) -> u64
     ensures { tally result site.new out.new ≡ received_many site.old frames.now out.old }
 {
     if !site::site_holds(site) {

@@ -7,8 +7,8 @@ use std::process::Command;
 
 use second::testkit::{scribbled, summed, BuildInput, Rng, SiteSpec};
 
-/// The log program, where `rt check log` puts it.
-pub const LOG: &str = concat!(env!("CARGO_MANIFEST_DIR"), "/../target/bin/log");
+/// The log program, where `rt run` in its crate leaves it.
+pub const LOG: &str = concat!(env!("CARGO_MANIFEST_DIR"), "/../crates/frame_log/out/frame_log");
 
 /// Runs a program for x86-64; WIRDHALEF_EMULATOR may name what runs it.
 pub fn command(program: &str) -> Command {
