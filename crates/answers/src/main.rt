@@ -2,11 +2,9 @@
 // answers are the file `stdout`. second/src/testkit/answers.rs has the layout of the cases and makes both files.
 #![tactic(auto)]
 
-mod input;
-
 ghost use Rattle.std.specs.Prelude.{◌≤◌, ◌<◌, length, IfOk};
 
-use input::read_full;
+use reading::read_full;
 use std::io::{self, Read, Write};
 
 // One case: its kind, the length of the output lent, and how many octets its three parts have.

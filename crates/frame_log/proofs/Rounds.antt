@@ -10,7 +10,8 @@ use Rattle.lines.specs.Log.{printed_from}
 use Rattle.frame_log.specs.declared.input.Place.{Place}
 use Rattle.frame_log.specs.declared.frames.Progress.{Progress}
 use Rattle.frame_log.specs.Buffers.{hand, end_of, Fed, Batched, Ended}
-use Rattle.frame_log.specs.Whole.{HoldsEnd, Prints}
+use Rattle.frame_log.specs.Whole.{Prints}
+use Rattle.reading.specs.Full.{HoldsEnd}
 use Rattle.frame_log.proofs.Hands.{length-hand}
 use Rattle.frame_log.proofs.Endings.{printed-ending}
 use Rattle.frame_log.proofs.Whole.{Along, along-read, along-write, along-end}

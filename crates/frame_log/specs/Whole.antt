@@ -1,13 +1,9 @@
 -- What is promised of the whole input and output, where the octets that a reader has left and those that a writer holds are known.
--- Assumes nothing: these are definitions.
--- HoldsEnd   a buffer that is not full holds the end of the input
--- Prints     the writer gets what is to be printed of the octets left
+-- Assumes nothing: this is a definition.
+-- Prints   the writer gets what is to be printed of the octets left
 use Rattle.std.specs.Prelude.{List, ℕ, ◌+◌, ◌^◌, ◌<◌, length, IfSome}
 use Rattle.std.specs.declared.option.Option.{Option}
-use Rattle.std.specs.Io.KnownBytes.{Appends, IsAtEnd}
-
-abbrev pub HoldsEnd : List ℕ → ℕ → Option (List ℕ) → Type 0
-HoldsEnd b have left = have < length b → IsAtEnd left
+use Rattle.std.specs.Io.KnownBytes.{Appends}
 
 -- text l of the octets l left, of which there are, with n more, fewer than 2^64
 abbrev pub Prints : (List ℕ → List ℕ) → ℕ → Option (List ℕ) → Option (List ℕ) → Option (List ℕ) → Type 0

@@ -4,8 +4,9 @@ ghost use Rattle.std.specs.Io.KnownBytes.{Consumes};
 ghost use Rattle.meaning.specs.Loading.{empty_site};
 ghost use Rattle.frame_log.specs.Opening.{opening_of, Opened};
 ghost use Rattle.frame_log.specs.Buffers.{hand, Fed};
-ghost use Rattle.frame_log.specs.Whole.{HoldsEnd};
+ghost use Rattle.reading.specs.Full.{HoldsEnd};
 
+use reading::read_full;
 use std::io;
 use std::io::Read;
 
@@ -30,23 +31,6 @@ pub fn open_site(file: &[u8], site: &mut [u8]) -> bool
     ensures { Opened file.now result site.new }
 {
     load::load(file, site) == 0
-}
-
-// Reads until the buffer is full or the input ends, and returns how many octets it put at the buffer's start.
-pub fn read_full<R: Read>(input: &mut R, buf: &mut [u8]) -> io::Result<usize>
-    ensures fit { IfOk result (λ n. n ≤ length buf.new) }
-    ensures octets { IfOk result (λ n. Consumes (R.remaining input.old) (R.remaining input.new) (take n buf.new)) }
-    ensures end { IfOk result (λ n. HoldsEnd buf.new n (R.remaining input.new)) }
-{
-    let mut done: usize = 0;
-    while done < buf.len() {
-        let n = input.read(&mut buf[done..])?;
-        if n == 0 {
-            break;
-        }
-        done += n;
-    }
-    Ok(done)
 }
 
 // Moves the octets at hand to the front, and reads more behind them, until the buffer is full or the input ends.

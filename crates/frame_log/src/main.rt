@@ -11,10 +11,12 @@ ghost use Rattle.std.specs.Prelude.{◌≡◌, ◌++◌, ◌+◌, ◌-◌, ◌�
 ghost use Rattle.meaning.specs.Site.{site_rule};
 ghost use Rattle.lines.specs.Log.{printed_from, printed};
 ghost use Rattle.frame_log.specs.Buffers.{hand};
-ghost use Rattle.frame_log.specs.Whole.{HoldsEnd, Prints};
+ghost use Rattle.frame_log.specs.Whole.{Prints};
+ghost use Rattle.reading.specs.Full.{HoldsEnd};
 
 use frames::{batch, finish};
-use input::{Opening, beginning, more, open_site, read_full};
+use input::{Opening, beginning, more, open_site};
+use reading::read_full;
 use std::io;
 use std::io::{Read, Write};
 

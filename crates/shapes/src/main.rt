@@ -4,7 +4,6 @@
 #![tactic(auto)]
 
 mod comparing;
-mod input;
 mod printing;
 mod requests;
 mod rounds;

@@ -1,7 +1,7 @@
 // Reads site files from the input and prints which keep their rules.
 ghost use Rattle.std.specs.Prelude.{◌≤◌, length, IfOk};
 
-use crate::input::read_full;
+use reading::read_full;
 use std::io::{self, Read, Write};
 
 fn wide(x: u16) -> usize {

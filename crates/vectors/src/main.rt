@@ -3,11 +3,10 @@
 #![tactic(auto)]
 
 mod checks;
-mod input;
 mod records;
 
 use checks::record_holds;
-use input::read_full;
+use reading::read_full;
 use records::fill;
 use std::io::{self, Read, Write};
 

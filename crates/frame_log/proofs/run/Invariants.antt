@@ -2,7 +2,7 @@
 -- the site as it is now; and what is left to be printed.
 use Rattle.std.proofs.Common.{◌≡◌, ◌≤◌, ◌+◌, ◌-◌, ◌^◌, length}
 use Rattle.meaning.specs.Site.{site_rule}
-use Rattle.frame_log.specs.Whole.{HoldsEnd}
+use Rattle.reading.specs.Full.{HoldsEnd}
 use Rattle.frame_log.proofs.Whole.{Along}
 use Rattle.frame_log.proofs.Rounds.{left}
 use Rattle.frame_log.proofs.run.Given as goal

@@ -1,7 +1,7 @@
 -- What was read so far stands at the buffer's start.
 use Rattle.std.proofs.Common.{length, ◌-◌, ◌≤◌, take}
 use Rattle.std.specs.Io.KnownBytes.{Consumes}
-use Rattle.frame_log.proofs.input.read_full.Given as goal
+use Rattle.reading.proofs.read_full.Given as goal
 
 abbrev pub invariant-loop-done : goal.invariant-loop-done
 invariant-loop-done g l = record {

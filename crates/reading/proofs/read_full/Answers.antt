@@ -1,8 +1,8 @@
--- `frame_log::read_full` meets its contract: each read stands behind those before. Assumes nothing.
+-- `read_full` meets its contract: each read stands behind those before. Assumes nothing.
 use Rattle.std.proofs.Common.{◌≤◌, arith, le_refl, length}
 use borrow.Rule.Slice.PartMut.{mid_len, same_len_mid}
-use Rattle.frame_log.proofs.Filling.{read-more}
-use Rattle.frame_log.proofs.input.read_full.Goals as goal
+use Rattle.reading.proofs.Filling.{read-more}
+use Rattle.reading.proofs.read_full.Goals as goal
 
 pub loop-done-preserved : goal.loop-done-preserved
 loop-done-preserved g c =
