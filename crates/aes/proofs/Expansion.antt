@@ -6,7 +6,7 @@ use native.Mathlib.Numerals.{add-one}
 use native.Mathlib.Omega.{arith}
 use lib.Bits.{bit_xor}
 use lib.ListN.{length, get_or, take, set, length-set}
-use lib.Seq.{take-suc, take-suc-set, take_all, get_or-take}
+use lib.Seq.{take-suc-set, take_all, get_or-take}
 use borrow.Author.Tests.{lt-ltb, le-ltb, eq-eqb, ne_eqb}
 use Rattle.meaning.specs.Sbox.{sbox}
 use Rattle.meaning.specs.Cipher.{power, temp, key_octet, expanded}
@@ -33,9 +33,6 @@ module _ (w : List ℕ) (i : ℕ) where
   unfolding key_octet temp
   before h =
       rw (get_or-take i w (i - 16) 0 (omega arith), get_or-take i w (i - 4) 0 (omega arith), get_or-take i w (4 * (i / 4 - 1) + (i % 4 + 1) % 4) 0 (omega arith))
-
-pub copy-more : (w key : List ℕ) (j : ℕ) → j < length w → j < length key → take j w ≡ take j key → take (j + 1) (set w j (get_or key j 0)) ≡ take (j + 1) key
-copy-more w key j h k e = rw (add-one, take-suc-set w j (get_or key j 0) h, take-suc key j 0 k, e)
 
 expand-more : (key w : List ℕ) (i v : ℕ) → 16 ≤ i → i < length w → take i w ≡ expanded key (i - 16) → v ≡ key_octet w i
     → take (i + 1) (set w i v) ≡ expanded key (i + 1 - 16)
@@ -94,9 +91,9 @@ module _ (w : List ℕ) (n x0 x1 x2 x3 r : ℕ) where
       grow-more w v at m _ e
       (ap (λ (o : ℕ). bit_xor (get_or v o 0) x) a ∙ middle v (at + m) (omega arith) (λ z. omega arith) (f ∙ ap (λ (o : ℕ). sbox (get_or v o 0)) b))
 
-  pub first-made : x0 ≡ sbox (get_or w (at - 3) 0) → r ≡ power n → x1 ≡ sbox (get_or w1 (at - 2) 0) → x2 ≡ sbox (get_or w2 (at - 1) 0)
+  pub first_made : x0 ≡ sbox (get_or w (at - 3) 0) → r ≡ power n → x1 ≡ sbox (get_or w1 (at - 2) 0) → x2 ≡ sbox (get_or w2 (at - 1) 0)
       → x3 ≡ sbox (get_or w3 (at - 4) 0) → w4 ≡ grown w at 4
-  first-made e p f g h =
+  first_made e p f g h =
       by-next w3 3 (at - 13) (at - 4) x3 (omega arith) (omega arith) (omega arith) (omega arith)
       (by-next w2 2 (at - 14) (at - 1) x2 (omega arith) (omega arith) (omega arith) (omega arith)
       (by-next w1 1 (at - 15) (at - 2) x1 (omega arith) (omega arith) (omega arith) (omega arith) (by-first e p) f) g) h

@@ -1,7 +1,7 @@
 -- Steps of a round on four words are steps on the state of their octets. Assumes nothing.
 use mathlib.Core.Path.{◌≡◌, refl, sym, ap, ap₂, ◌∙◌}
 use mathlib.Core.List.{List, [], ◌∷◌, ◌++◌}
-use Prim.Native.Nat.{ℕ, ◌+◌, ◌*◌, ◌/◌, ◌%◌, ◌<◌}
+use Prim.Native.Nat.{ℕ, ◌+◌, ◌*◌, ◌/◌, ◌%◌}
 use native.Mathlib.Omega.{arith}
 use lib.Bits.{bit_xor}
 use lib.ListN.{length, get_or, take, drop}
@@ -46,23 +46,23 @@ unfolding octs
 stored a b c d e f g h = rw (h, g, f, e)
 
 -- ---- the steps
-pub subbed : (a b c d x : ℕ) {p q r s : ℕ} → d < 4294967296 → octs 4 x ≡ p ∷ q ∷ r ∷ s ∷ [] → p ≡ sbox (a % 256) → q ≡ sbox (b / 256 % 256)
-    → r ≡ sbox (c / 65536 % 256) → s ≡ sbox (d / 16777216) → octs 4 x ≡ sub_column a b c d
+pub subbed : (a b c d x : ℕ) {p q r s : ℕ} → octs 4 x ≡ p ∷ q ∷ r ∷ s ∷ [] → p ≡ sbox (a % 256) → q ≡ sbox (b / 256 % 256)
+    → r ≡ sbox (c / 65536 % 256) → s ≡ sbox (d / 16777216 % 256) → octs 4 x ≡ sub_column a b c d
 unfolding octs sub_column
-subbed a b c d x l e p q r s =
+subbed a b c d x e p q r s =
     let f : c / 65536 % 256 ≡ c / 256 / 256 % 256 = omega arith in
-    let g : d / 16777216 ≡ d / 256 / 256 / 256 % 256 = omega arith in
+    let g : d / 16777216 % 256 ≡ d / 256 / 256 / 256 % 256 = omega arith in
     e ∙ four p q (r ∙ ap sbox f) (s ∙ ap sbox g)
 
-pub sub-shifted : (a b c d e f g h : ℕ) → octs 4 e ≡ sub_column a b c d → octs 4 f ≡ sub_column b c d a → octs 4 g ≡ sub_column c d a b
+pub sub_shifted : (a b c d e f g h : ℕ) → octs 4 e ≡ sub_column a b c d → octs 4 f ≡ sub_column b c d a → octs 4 g ≡ sub_column c d a b
     → octs 4 h ≡ sub_column d a b c → octets e f g h ≡ shift_rows (sub_bytes (octets a b c d))
 unfolding octs sub_column shift_rows sub_bytes
-sub-shifted a b c d e f g h p q r s = columns p q r s
+sub_shifted a b c d e f g h p q r s = columns p q r s
 
-pub mixed-columns : (a b c d e f g h : ℕ) → octs 4 e ≡ mix_column (octs 4 a) → octs 4 f ≡ mix_column (octs 4 b) → octs 4 g ≡ mix_column (octs 4 c)
+pub mixed_columns : (a b c d e f g h : ℕ) → octs 4 e ≡ mix_column (octs 4 a) → octs 4 f ≡ mix_column (octs 4 b) → octs 4 g ≡ mix_column (octs 4 c)
     → octs 4 h ≡ mix_column (octs 4 d) → octets e f g h ≡ mix_columns (octets a b c d)
 unfolding octs mix_column mix_columns
-mixed-columns a b c d e f g h p q r s = columns p q r s
+mixed_columns a b c d e f g h p q r s = columns p q r s
 
 octs-xor : (x y : ℕ) → octs 4 (bit_xor x y) ≡ tab (λ i. bit_xor (get_or (octs 4 x) i 0) (get_or (octs 4 y) i 0)) 4
 octs-xor x y =
@@ -73,7 +73,7 @@ added : (a b c d e f g h : ℕ) → octets (bit_xor a e) (bit_xor b f) (bit_xor 
 unfolding octs add_round_key
 added a b c d e f g h = columns (octs-xor a e) (octs-xor b f) (octs-xor c g) (octs-xor d h)
 
-pub key-added : (w : List ℕ) (n a b c d e f g h : ℕ) → octs 4 e ≡ part (16 * n) 4 w → octs 4 f ≡ part (16 * n + 4) 4 w
+pub key_added : (w : List ℕ) (n a b c d e f g h : ℕ) → octs 4 e ≡ part (16 * n) 4 w → octs 4 f ≡ part (16 * n + 4) 4 w
     → octs 4 g ≡ part (16 * n + 8) 4 w → octs 4 h ≡ part (16 * n + 12) 4 w
     → octets (bit_xor a e) (bit_xor b f) (bit_xor c g) (bit_xor d h) ≡ add_round_key (octets a b c d) (round_key w n)
-key-added w n a b c d e f g h p q r s = added a b c d e f g h ∙ ap (add_round_key (octets a b c d)) (four-words w (16 * n) e f g h p q r s)
+key_added w n a b c d e f g h p q r s = added a b c d e f g h ∙ ap (add_round_key (octets a b c d)) (four-words w (16 * n) e f g h p q r s)

@@ -6,6 +6,8 @@ use Prim.Native.Nat.{ℕ, zero, suc, ◌+◌, ◌*◌, ◌/◌, ◌%◌, ◌^◌
 use native.Mathlib.Nat.{add-zero, add-mul, mul_right_comm, div-add-mod'}
 use native.Mathlib.Omega.{arith}
 use lib.Arith.{digits_div, digits_mod}
+use Rattle.std.specs.Int.{rotate_right, w32}
+use Rattle.std.specs.Int.Bits.{bit_or, or_shifted_r}
 use lib.Bits.{bit_xor, bit_and, differ, xor_comm, xor_step, xor_lt, xor_shr, xor_mod, and_shr, and_mod, and_mask}
 use lib.Dec.{eqb, eqb→eq}
 use lib.ListN.{get_or}
@@ -80,6 +82,11 @@ turn-word x h =
     ≡ x / 256 % 256 + 256 * (x / 256 / 256 % 256) + 65536 * (x / 256 / 256 / 256 % 256) + 16777216 * (x % 256) = omega arith in
     ap (octs 4) e
     ∙ joined (x / 256 % 256) (x / 256 / 256 % 256) (x / 256 / 256 / 256 % 256) (x % 256) (omega arith) (omega arith) (omega arith) (omega arith)
+
+pub rotated : (x : ℕ) → x < 4294967296 → rotate_right w32 x 8 ≡ x / 256 + 16777216 * (x % 256)
+rotated x h =
+    let e : x * 16777216 % 4294967296 ≡ x % 256 * 16777216 = omega arith in
+    ap (bit_or (x / 256)) e ∙ or_shifted_r (x % 256) 24 (x / 256) (omega arith) ∙ omega arith
 
 -- ---- each octet times {02}
 low-bits : (i x : ℕ) → i < 4 → row i (bit_and x 0x7f7f7f7f) ≡ row i x % 128
@@ -190,6 +197,6 @@ module _ (x t y u v : ℕ) (et : octs 4 t ≡ turned (octs 4 x)) (ey : octs 4 y 
       ∙ ap₂ (λ (m n : ℕ). bit_xor (row m x) (row n x)) p q)
       ∙ mixed-row (row i x) (row j x) (row ((i + 2) % 4) x) (row ((i + 3) % 4) x) (octs-lt 4 x i) (octs-lt 4 x j)
 
-  pub mix-word : octs 4 (bit_xor (bit_xor y t) v) ≡ mix_column (octs 4 x)
+  pub mix_word : octs 4 (bit_xor (bit_xor y t) v) ≡ mix_column (octs 4 x)
   unfolding mix_column
-  mix-word = tab-of mixed_row 0 4 (octs 4 (bit_xor (bit_xor y t) v)) (length-octs 4 (bit_xor (bit_xor y t) v)) mixed-octet
+  mix_word = tab-of mixed_row 0 4 (octs 4 (bit_xor (bit_xor y t) v)) (length-octs 4 (bit_xor (bit_xor y t) v)) mixed-octet

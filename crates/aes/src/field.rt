@@ -9,7 +9,7 @@ pub fn double(a: u8) -> u8
     (a << 1) ^ ((a >> 7) * 0x1b)
 }
 
-// The product of two octets in the field. The multiplier halves at each call.
+// The product of two octets in the field. The multiplier halves at each call: document 01 names this form.
 pub fn product(a: u8, b: u8) -> u8
     ensures { result ≡ product a b }
 {

@@ -1,8 +1,9 @@
-// The S-box (FIPS 197, 5.1.1): 256 constants, made once and lent.
+// The S-box (FIPS 197, 5.1.1): 256 constants, which a cipher keeps.
 ghost use Rattle.std.specs.Prelude.{◌≡◌};
 ghost use Rattle.meaning.specs.Sbox.{sbox, IsSbox};
+ghost use Rattle.aes.specs.Kept.{IsSbox-prop};
 
-// FIPS 197, figure 7, a row on each line.
+// FIPS 197, figure 7, a row on each line. Document 01 names a table of constants with one computed test.
 const SBOX: [u8; 256] = *b"\
     \x63\x7c\x77\x7b\xf2\x6b\x6f\xc5\x30\x01\x67\x2b\xfe\xd7\xab\x76\
     \xca\x82\xc9\x7d\xfa\x59\x47\xf0\xad\xd4\xa2\xaf\x9c\xa4\x72\xc0\
@@ -21,17 +22,31 @@ const SBOX: [u8; 256] = *b"\
     \xe1\xf8\x98\x11\x69\xd9\x8e\x94\x9b\x1e\x87\xe9\xce\x55\x28\xdf\
     \x8c\xa1\x89\x0d\xbf\xe6\x42\x68\x41\x99\x2d\x0f\xb0\x54\xbb\x16";
 
-// The S-box, to be made once and lent to the functions that look octets up.
+// The S-box as a table: each entry is the rule's.
 pub fn sbox_table() -> [u8; 256]
     ensures { IsSbox result }
 {
     SBOX
 }
 
-// The S-box at an octet.
-pub fn sub(t: &[u8; 256], x: u8) -> u8
-    requires { IsSbox t.now }
-    ensures { result ≡ sbox x }
-{
-    t[x as usize]
+// The S-box, kept by what looks octets up in it. Open, since a caller may bring any table of which the fact holds.
+#[derive(Drop)]
+pub struct Sbox {
+    pub table: [u8; 256],
+    pub ghost is_sbox: { IsSbox table } by { IsSbox-prop table },
+}
+
+impl Sbox {
+    pub fn new() -> Sbox {
+        Sbox {
+            table: sbox_table(),
+        }
+    }
+
+    // The S-box at an octet.
+    pub fn sub(&self, x: u8) -> u8
+        ensures { result ≡ sbox x }
+    {
+        self.table[x as usize]
+    }
 }

@@ -1,4 +1,4 @@
--- The header that a request asks for, by its parts; and its fields are in range where the request's are. Assumes nothing.
+-- The fields of the header that a request asks for are in range where the request's are. Assumes nothing.
 use mathlib.Core.Path.{◌≡◌, refl, sym}
 use mathlib.Core.Bool.{Bool, true, false, ◌&&◌, ◌||◌, not}
 use mathlib.Core.List.{List}
@@ -15,25 +15,6 @@ use Rattle.meaning.proofs.Same.{eqb-true}
 use Rattle.meaning.proofs.Scan.{pick-all}
 use Rattle.builder.specs.Stored.{Small}
 
-pub header-is : (t : List ℕ) (q : Request) (d s : Address) (v : Bool) (x p r k : ℕ)
-    → d ≡ fitted q.destination → s ≡ own_address t q.srcmode → v ≡ compresses d s
-    → x ≡ bit (not (eqb q.level 0)) → p ≡ bit q.pending → r ≡ bit q.request → k ≡ bit v
-    → record {
-      kind = q.kind;
-      security = x;
-      pending = p;
-      request = r;
-      compression = k;
-      version = q.version;
-      sequence = q.sequence;
-      destination = d;
-      source = s;
-    }
-    ≡ header_by t q
-unfolding header_by
-header-is t q d s v x p r k hd hs hv hx hp hr hk = rw (hk, hv, hd, hs, hx, hp, hr)
-
--- ---- in range
 bit-le : (b : Bool) → bit b ≤ 1
 bit-le true = omega arith
 bit-le false = omega arith

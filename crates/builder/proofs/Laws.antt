@@ -8,20 +8,21 @@ use mathlib.Core.List.{List, []}
 use Prim.Native.Nat.{ℕ, ◌+◌, ◌≤◌}
 use native.Mathlib.Omega.{arith}
 use lib.ListN.{length}
+use lib.Dec.{ltb}
 use Rattle.meaning.specs.Frame.{key_source_len, key_id_len, tag_len}
-use Rattle.meaning.specs.Site.{settings_of, site_rule}
-use Rattle.meaning.specs.Build.{header_by, head_octets, aux_octets, with_fcs, plain_body, frame_len, Construction, own_raised, laid, built_valid}
-use Rattle.meaning.specs.declared.Header.{Header}
+use Rattle.meaning.specs.Site.{site_rule}
+use Rattle.meaning.specs.Build.{header_by, head_octets, aux_octets, with_fcs, frame_len, Made, refuse, Construction, own_raised, laid, built_valid}
 use Rattle.meaning.specs.declared.Request.{Request}
 use Rattle.meaning.proofs.Raises.{own-rule, own-length}
 use Rattle.meaning.proofs.Stores.{length-beside}
-use Rattle.builder.specs.declared.decision.Decision.{Decision}
-use Rattle.builder.specs.declared.decision.Decision.TheVariants.{Refused, Plain, Keyed}
-use Rattle.builder.specs.Decided.{decided_at, keyed_body}
-use Rattle.builder.specs.Stored.{Ready}
+use Rattle.std.specs.Prelude.{Option, Some, None, Result, Ok, Err, is_some}
+use Rattle.meaning.specs.declared.Refusal.{Refusal}
+use Rattle.meaning.specs.declared.Refusal.TheVariants.{Room}
+use Rattle.meaning.proofs.Scan.{pick-all}
+use Rattle.std.proofs.lemmas.Bool.{ltb-false}
+use Rattle.builder.specs.Decided.{decided_at, body_by}
 use Rattle.builder.proofs.Sizes.{aux-some}
-use Rattle.builder.proofs.Written.{plain-long}
-use Rattle.builder.proofs.Ends.{plain_ready, keyed-ready, keyed-long, result, made-is}
+use Rattle.builder.proofs.Ends.{ready, body-long, result, made-is}
 
 -- an answer, and the site and the output afterwards, beside those before
 pub record Keeps (s out : List ℕ) (u : Construction) : Type 0 where
@@ -30,35 +31,33 @@ pub record Keeps (s out : List ℕ) (u : Construction) : Type 0 where
   pub out-long : length u.out ≡ length out
   pub len-low : u.answer.len ≤ 127
 
--- what has room has room in 127 octets
-least : (h : Header) (q : Request) (o p : List ℕ) (n : ℕ) → Ready h q o p n → Ready h q o p 127
-least h q o p n w = record { small = w.small; level = w.level; mode = w.mode; room = omega arith; fits = w.fits }
-
 module _ (s : List ℕ) (q : Request) (o p out : List ℕ) (rule : site_rule s ≡ true) where
-  by : (v : Decision) → decided_at s q o p (length out) ≡ v → Keeps s out (laid s out (result s q o p v))
-  unfolding laid result own_raised
-  by (Refused r) e = record { site-rule = rule; site-long = refl; out-long = refl; len-low = omega arith }
-  by Plain e =
-      let h : Header = header_by (settings_of s) q in
-      let w : Ready h q o p (length out) = (plain_ready s q o p (length out) e).0 in
+  raised : (v : Option ℕ) → (site_rule (own_raised (is_some v) s) ≡ true) × (length (own_raised (is_some v) s) ≡ length s)
+  unfolding own_raised
+  raised None = (rule, refl)
+  raised (Some k) = (own-rule s rule, own-length s rule)
+
+  unchanged : (r : Refusal) → Keeps s out (laid s out (refuse r))
+  unfolding laid
+  unchanged r = record { site-rule = rule; site-long = refl; out-long = refl; len-low = omega arith }
+
+  by : 127 ≤ length out → (v : Result (Option ℕ) Refusal) → decided_at s q o p ≡ v → Keeps s out (laid s out (result s q o p v))
+  unfolding laid result
+  by n (Err r) e = unchanged r
+  by n (Ok v) e =
+      let long = body-long s q o p v (ready s q o p e) in
       record {
-        site-rule = rule;
-        site-long = refl;
-        out-long = length-beside (with_fcs (plain_body (head_octets h) o p)) out (plain-long h q o p (length out) w);
-        len-low = plain-long h q o p 127 (least h q o p (length out) w);
-      }
-  by (Keyed k) e =
-      let w : Ready (header_by (settings_of s) q) q o p (length out) = keyed-ready s q o p (length out) k e in
-      record {
-        site-rule = own-rule s rule;
-        site-long = own-length s rule;
-        out-long = length-beside (with_fcs (keyed_body s q o p k)) out (keyed-long s q o p k (length out) w);
-        len-low = keyed-long s q o p k 127 (least (header_by (settings_of s) q) q o p (length out) w);
+        site-rule = (raised v).0;
+        site-long = (raised v).1;
+        out-long = length-beside (with_fcs (body_by s q o p v)) out (omega (arith, long, n));
+        len-low = long;
       }
 
   pub keeps : Keeps s out (built_valid s q o p out)
   unfolding built_valid
-  keeps = rw (made-is s q o p (length out)) (by (decided_at s q o p (length out)) refl)
+  keeps = rw (made-is s q o p (length out))
+      (pick-all (λ (m : Made). Keeps s out (laid s out m)) (ltb (length out) 127) (refuse Room) (result s q o p (decided_at s q o p))
+      (λ e. unchanged Room) (λ e. by (ltb-false (length out) 127 e) (decided_at s q o p) refl))
 
   pub rule-kept : site_rule (built_valid s q o p out).site ≡ true
   rule-kept = keeps.site-rule

@@ -17,7 +17,7 @@ use Rattle.meaning.specs.declared.Request.{Request}
 use Rattle.meaning.proofs.Lists.{length-take-most}
 use Rattle.meaning.proofs.Numbers.{length-octs}
 use Rattle.meaning.proofs.Scan.{pick-all}
-use Rattle.meaning.proofs.Lengths.{address-bound, key-source-bound}
+use Rattle.meaning.proofs.Lengths.{address-bound, key-source-bound, key-id-bound, tag-bound}
 
 -- ---- addresses
 pub length-address : (a : Address) → length (address_octets a) ≡ address_len a.mode
@@ -120,3 +120,5 @@ module _ (t : List ℕ) (q : Request) (o p : List ℕ) where
       → leb (u + v + length o + length p + w + 2) 127 ≡ leb (frame_len t q o p) 127
   unfolding frame_len
   whole u v w h e a b c = rw (a, b, c, e)
+
+pub ruleset sizes = (placed-none, placed-some, source-short, source-whole, head-sum, aux-none, aux-some, open-long, private-long, whole, placed-bound, source-bound, head-bound, aux-bound, address-bound, key-id-bound, tag-bound)

@@ -6,6 +6,7 @@ use native.Mathlib.Omega.{arith}
 use lib.ListN.{length, take, drop, length-append, length-drop}
 use lib.Seq.{sets, sets-eq, length-sets, take-take, take_at, drop_at, length-take-le}
 use borrow.Author.Tests.{eq-eqb}
+use Rattle.std.proofs.lemmas.List.{take-append-drop}
 use Rattle.meaning.specs.Frame.{tag_len}
 use Rattle.meaning.specs.Fcs.{fcs}
 use Rattle.meaning.specs.Cipher.{cipher}
@@ -16,60 +17,75 @@ use Rattle.meaning.specs.declared.Request.{Request}
 use Rattle.meaning.proofs.Stores.{take-sets, drop-sets, sets-beside, take-beside}
 use Rattle.meaning.proofs.Sums.{length-fcs}
 use Rattle.meaning.proofs.Ccm.{length-cipher-text, length-tag}
-use Rattle.aes.specs.Schedule.{scheduled, cipher_by}
-use Rattle.aes.proofs.Laws.{same-cipher, length-cipher}
+use Rattle.aes.specs.Schedule.{cipher_by}
+use Rattle.aes.proofs.Laws.{length-by, length-cipher}
 use Rattle.ccm.specs.Tags.{Sealing}
-use Rattle.builder.specs.Stored.{Put, Open, Ready, closed, secured_by}
-use Rattle.builder.proofs.Puts.{put-two}
+use Rattle.octets.specs.declared.writer.Writer.{Writer}
+use Rattle.octets.specs.Writing.{Room, Over, Put}
+use Rattle.octets.proofs.Writing.{put-two, put-long}
+use Rattle.builder.specs.Stored.{Laid, Ready, closed, secured_by}
 use Rattle.builder.proofs.Sizes.{aux-same}
 
 -- ---- room
-pub open-ready : (h : Header) (q : Request) (o p : List ℕ) (n c : ℕ) → Ready h q o p n → Open h q c o n
-open-ready h q o p n c r =
-    record {
-      small = r.small;
-      level = r.level;
-      mode = r.mode;
-      room = omega (arith, r.room);
-      fits = omega (arith, aux-same q c 0, r.fits, r.room);
-    }
+pub roomy : {d e : List ℕ} → length d ≡ 127 → e ≡ d → 127 ≤ length e
+roomy h q = rw q (omega (arith, h))
 
 -- where the private payload begins, with all that comes after it
-pub open-ends : (h : Header) (q : Request) (c : ℕ) (o p : List ℕ) (n at : ℕ) → Ready h q o p n → at ≡ 0 + length (head_octets h ++ (aux_octets q c ++ o))
+pub open-ends : (h : Header) (q : Request) (c : ℕ) (o p : List ℕ) (at : ℕ) → Ready h q o p → at ≡ 0 + length (head_octets h ++ (aux_octets q c ++ o))
     → at + length p + tag_len q.level + 2 ≤ 127
-open-ends h q c o p n at r e =
+open-ends h q c o p at r e =
     omega (arith, r.fits, aux-same q c 0, length-append (head_octets h) (aux_octets q c ++ o), length-append (aux_octets q c) o)
 
+-- after what is open to all, and after the private payload, there is room for all that comes
+module _ (h : Header) (q : Request) (c : ℕ) (o p : List ℕ) {w w₁ : Writer} (r : Ready h q o p) (z : w.at ≡ 0) (n : 127 ≤ length w.out.now)
+    (a : Put w (head_octets h ++ (aux_octets q c ++ o)) w₁) where
+  end : w₁.at + length p + tag_len q.level + 2 ≤ 127
+  end = open-ends h q c o p w₁.at r (omega (arith, a.next, z))
+
+  pub open-room : Room w₁ (length p)
+  open-room = omega (arith, put-long a, end, n)
+
+  pub private-end : {w₂ : Writer} → Put w₁ p w₂ → (w₁.at ≤ w₂.at) × (w₂.at + tag_len q.level + 2 ≤ 127)
+  private-end b = (omega (arith, b.next), omega (arith, b.next, end))
+
+  pub private-room : {w₂ : Writer} (m : ℕ) → Put w₁ p w₂ → m ≤ tag_len q.level + 2 → Room w₂ m
+  private-room m b l = omega (arith, l, b.next, put-long b, put-long a, end, n)
+
 -- ---- what stands in front
-pub take_put : {d x d₁ : List ℕ} {n : ℕ} → Put d 0 x n d₁ → length x ≤ length d → take n d₁ ≡ x
-take_put {d} {x} {d₁} {n} p h =
-    let e : n ≡ length x = omega (arith, p.next) in
-    ap₂ (λ (m : ℕ) (l : List ℕ). take m l) e (p.same ∙ sets-beside x d h) ∙ take-beside x d
+pub take_put : {w w₁ : Writer} {x : List ℕ} → w.at ≡ 0 → Put w x w₁ → length x ≤ length w.out.now → take w₁.at w₁.out.now ≡ x
+take_put {w} {w₁} {x} z p h =
+    let e : w₁.at ≡ length x = omega (arith, p.next, z) in
+    ap₂ (λ (m : ℕ) (l : List ℕ). take m l) e (p.same ∙ ap (λ (n : ℕ). sets w.out.now n x) z ∙ sets-beside x w.out.now h) ∙ take-beside x w.out.now
 
 -- the FCS after it
-pub with-fcs : {d x d₁ d₂ : List ℕ} {n r : ℕ} → Put d 0 x n d₁ → length x ≤ length d → Put d₁ n (fcs (take n d₁)) r d₂ → Put d 0 (with_fcs x) r d₂
+pub with-fcs : {w w₁ w₂ : Writer} {x : List ℕ} → w.at ≡ 0 → Put w x w₁ → length x ≤ length w.out.now → Put w₁ (fcs (take w₁.at w₁.out.now)) w₂
+    → Put w (with_fcs x) w₂
 unfolding with_fcs
-with-fcs p h q = put-two p (rw (take_put p h) at q)
+with-fcs z p h q = put-two p (rw (take_put z p h) at q)
+
+-- in a buffer that held d and holds d' when its writer is done
+pub laid : {w w' : Writer} {xs d : List ℕ} (d' : List ℕ) → w.out.now ≡ d → w.at ≡ 0 → Put w xs w' → d' ≡ w'.out.now → Laid d xs w'.at d'
+laid {w} {w'} {xs} {d} d' o z p e = record { next = omega (arith, p.next, z); same = e ∙ p.same ∙ ap₂ (λ (n : ℕ) (l : List ℕ). sets l n xs) z o }
 
 -- ---- without security
 no-aux : (q : Request) (c : ℕ) → q.level ≡ 0 → aux_octets q c ≡ []
 unfolding aux_octets
 no-aux q c h = rw (eq-eqb q.level 0 h)
 
-pub plain-put : (h : Header) (q : Request) (o p : List ℕ) {d d₁ d₂ d₃ : List ℕ} {a n r : ℕ} → q.level ≡ 0 → Ready h q o p (length d)
-    → Put d 0 (head_octets h ++ (aux_octets q 0 ++ o)) a d₁ → Put d₁ a p n d₂ → Put d₂ n (fcs (take n d₂)) r d₃
-    → Put d 0 (with_fcs (plain_body (head_octets h) o p)) r d₃
+pub plain-put : (h : Header) (q : Request) (o p : List ℕ) {w w₁ w₂ w₃ : Writer} → q.level ≡ 0 → Ready h q o p → w.at ≡ 0 → 127 ≤ length w.out.now
+    → Put w (head_octets h ++ (aux_octets q 0 ++ o)) w₁ → Put w₁ p w₂ → Put w₂ (fcs (take w₂.at w₂.out.now)) w₃
+    → Put w (with_fcs (plain_body (head_octets h) o p)) w₃
 unfolding plain_body
-plain-put h q o p {d} l w a b f =
+plain-put h q o p {w} l r z n a b f =
     let e : (head_octets h ++ (aux_octets q 0 ++ o)) ++ p ≡ head_octets h ++ (o ++ p) = rw (no-aux q 0 l) (append_assoc (head_octets h) o p) in
-    with-fcs (rw e at (put-two a b))
-    (omega (arith, w.fits, w.room, length-append (head_octets h) (o ++ p), length-append o p)) f
+    with-fcs z (rw e at (put-two a b))
+    (omega (arith, n, r.fits, length-append (head_octets h) (o ++ p), length-append o p)) f
 
-pub plain-long : (h : Header) (q : Request) (o p : List ℕ) (n : ℕ) → Ready h q o p n → length (with_fcs (plain_body (head_octets h) o p)) ≤ n
+pub plain-long : (h : Header) (q : Request) (o p : List ℕ) → Ready h q o p → length (with_fcs (plain_body (head_octets h) o p)) ≤ 127
 unfolding with_fcs plain_body
-plain-long h q o p n w =
+plain-long h q o p w =
     let b : List ℕ = head_octets h ++ (o ++ p) in
-    omega (arith, w.fits, w.room, length-append b (fcs b), length-fcs b, length-append (head_octets h) (o ++ p), length-append o p)
+    omega (arith, w.fits, length-append b (fcs b), length-fcs b, length-append (head_octets h) (o ++ p), length-append o p)
 
 -- ---- sealed
 -- a run over another that is not longer
@@ -93,91 +109,101 @@ module _ (E : List ℕ → List ℕ) (E-16 : (b : List ℕ) → length (E b) ≡
       omega (arith, length-append b (fcs b), length-fcs b, length-append a (closed (sealed E nonce l a p)), length-closed a p)
 
   -- where the tag ends
-  ends : (at n : ℕ) (a : List ℕ) {d d₁ : List ℕ} {r : ℕ} → at ≤ n → n ≤ length d → Put d at (closed (sealed E nonce l a (drop at (take n d)))) r d₁ → r ≡ n + tag_len l
-  ends at n a {d} h k p =
-      omega (arith, p.next, length-closed a (drop at (take n d)), length-drop at (take n d), length-take-le n d k)
+  ends : {w w₁ : Writer} (start : ℕ) (a : List ℕ) → start ≤ w.at → w.at ≤ length w.out.now
+      → Over w start (closed (sealed E nonce l a (drop start (take w.at w.out.now)))) w₁ → w₁.at ≡ w.at + tag_len l
+  ends {w} start a h k p =
+      omega (arith, p.next, length-closed a (drop start (take w.at w.out.now)), length-drop start (take w.at w.out.now), length-take-le w.at w.out.now k)
 
-  secured-by : (a p : List ℕ) {d d₁ d₂ d₃ d₄ : List ℕ} {at n m r : ℕ} → length a + length p + tag_len l ≤ length d
-      → Put d 0 a at d₁ → Put d₁ at p n d₂ → Put d₂ at (closed (sealed E nonce l (take at d₂) (drop at (take n d₂)))) m d₃
-      → Put d₃ m (fcs (take m d₃)) r d₄ → Put d 0 (with_fcs (secured_by E nonce l a p)) r d₄
+  secured-by : (a p : List ℕ) {w w₁ w₂ w₃ w₄ : Writer} → w.at ≡ 0 → length a + length p + tag_len l ≤ length w.out.now
+      → Put w a w₁ → Put w₁ p w₂ → Over w₂ w₁.at (closed (sealed E nonce l (take w₁.at w₂.out.now) (drop w₁.at (take w₂.at w₂.out.now)))) w₃
+      → Put w₃ (fcs (take w₃.at w₃.out.now)) w₄ → Put w (with_fcs (secured_by E nonce l a p)) w₄
   unfolding secured_by
-  secured-by a p {d} {d₁} {d₂} {d₃} {d₄} {at} {n} {m} {r} h pa pb pc pd =
+  secured-by a p {w} {w₁} {w₂} {w₃} {w₄} z h pa pb pc pd =
       let both = put-two pa pb in
-      let w : take n d₂ ≡ a ++ p = take_put both (omega (arith, length-append a p)) in
-      let la : length a ≡ at = omega (arith, pa.next) in
-      let ln : at ≤ n = omega (arith, pb.next) in
-      let ta : take at d₂ ≡ a = sym (take-take at n d₂ ln) ∙ ap (take at) w ∙ take_at a p at la in
-      let td : drop at (take n d₂) ≡ p = ap (drop at) w ∙ drop_at a p at la in
+      let f : take w₂.at w₂.out.now ≡ a ++ p = take_put z both (omega (arith, length-append a p)) in
+      let la : length a ≡ w₁.at = omega (arith, z, pa.next) in
+      let ln : w₁.at ≤ w₂.at = omega (arith, pb.next) in
+      let ta : take w₁.at w₂.out.now ≡ a = sym (take-take w₁.at w₂.at w₂.out.now ln) ∙ ap (take w₁.at) f ∙ take_at a p w₁.at la in
+      let td : drop w₁.at (take w₂.at w₂.out.now) ≡ p = ap (drop w₁.at) f ∙ drop_at a p w₁.at la in
       let c : List ℕ = closed (sealed E nonce l a p) in
       let lc : length c ≡ length p + tag_len l = length-closed a p in
-      let ld : length d₁ ≡ length d = ap length pa.same ∙ length-sets d 0 a in
-      let e : closed (sealed E nonce l (take at d₂) (drop at (take n d₂))) ≡ c = ap₂ (λ (u v : List ℕ). closed (sealed E nonce l u v)) ta td in
-      let s : Put d₂ at c m d₃ = rw e at pc in
-      let t : Put d₁ at c m d₃ =
+      let ld = put-long pa in
+      let e : closed (sealed E nonce l (take w₁.at w₂.out.now) (drop w₁.at (take w₂.at w₂.out.now))) ≡ c = ap₂ (λ (u v : List ℕ). closed (sealed E nonce l u v)) ta td in
+      let s : Over w₂ w₁.at c w₃ = rw e at pc in
+      let t : Put w₁ c w₃ =
       record {
         next = s.next;
-        same = s.same ∙ ap (λ (x : List ℕ). sets x at c) pb.same ∙ sets-over p c d₁ at (omega arith) (omega arith);
+        same = s.same ∙ ap (λ (x : List ℕ). sets x w₁.at c) pb.same ∙ sets-over p c w₁.out.now w₁.at (omega arith) (omega arith);
+        out = s.out ∙ pb.out;
       } in
-      with-fcs (put-two pa t) (omega (arith, length-append a c)) pd
+      with-fcs z (put-two pa t) (omega (arith, length-append a c)) pd
 
--- the same under a key
-module _ (key nonce : List ℕ) (l : ℕ) where
-  pub tag-ends : (at n : ℕ) {d d₁ : List ℕ} {r : ℕ} → at ≤ n → n ≤ length d → Put d at (closed (sealed (cipher key) nonce l (take at d) (drop at (take n d)))) r d₁
-      → r ≡ n + tag_len l
-  tag-ends at n {d} = ends (cipher key) (length-cipher key) nonce l at n (take at d)
+-- the same by an expanded key
+module _ (k nonce : List ℕ) (l : ℕ) where
+  pub sealed-room : {w w₁ : Writer} (start : ℕ) → start ≤ w.at → Room w (tag_len l + 2)
+      → Over w start (closed (sealed (cipher_by k) nonce l (take start w.out.now) (drop start (take w.at w.out.now)))) w₁
+      → Room w₁ 2
+  sealed-room {w} start h r p =
+      omega (arith, r, ends (cipher_by k) (length-by k) nonce l start (take start w.out.now) h (omega (arith, r)) p, put-long p)
 
-  -- a frame sealed in place, and its tag put after it
-  pub sealed-put : (at n : ℕ) (d w f tag d₂ : List ℕ) (m r : ℕ) → at ≤ n → n ≤ length d → w ≡ scheduled key
-      → Sealing (cipher_by w) nonce l at (take n d) f tag → m ≡ tag_len l → Put (f ++ drop n d) n (take m tag) r d₂
-      → Put d at (closed (sealed (cipher key) nonce l (take at d) (drop at (take n d)))) r d₂
+  -- what was written is sealed in place, and its tag put after it
+  pub sealed-put : (start : ℕ) (w v w' : Writer) (tag : List ℕ) (m : ℕ) → start ≤ w.at → w.at ≤ length w.out.now
+      → Sealing (cipher_by k) nonce l start (take w.at w.out.now) (take w.at v.out.now) tag → drop w.at v.out.now ≡ drop w.at w.out.now
+      → m ≡ tag_len l → v.at ≡ w.at → v.out.ghost_name ≡ w.out.ghost_name → Put v (take m tag) w'
+      → Over w start (closed (sealed (cipher_by k) nonce l (take start w.out.now) (drop start (take w.at w.out.now)))) w'
   unfolding closed
-  sealed-put at n d w f tag d₂ m r h k e s g p = put-two first (rw t at p)
+  sealed-put start w v w' tag m h b s e g va vr p = put-two first (rw t at p)
     where
-      same : cipher_by w ≡ cipher key
-      same = ap cipher_by e ∙ same-cipher key
+      d : List ℕ
+      d = w.out.now
 
-      front : take at (take n d) ≡ take at d
-      front = take-take at n d h
+      n : ℕ
+      n = w.at
+
+      front : take start (take n d) ≡ take start d
+      front = take-take start n d h
 
       is : Sealed
-      is = sealed (cipher key) nonce l (take at d) (drop at (take n d))
+      is = sealed (cipher_by k) nonce l (take start d) (drop start (take n d))
 
-      said : sealed (cipher_by w) nonce l (take at (take n d)) (drop at (take n d)) ≡ is
-      said = ap₂ (λ (E : List ℕ → List ℕ) (a : List ℕ). sealed E nonce l a (drop at (take n d))) same front
+      said : sealed (cipher_by k) nonce l (take start (take n d)) (drop start (take n d)) ≡ is
+      said = ap (λ (a : List ℕ). sealed (cipher_by k) nonce l a (drop start (take n d))) front
 
       t : take m tag ≡ is.tag
       t = ap (λ (j : ℕ). take j tag) g ∙ s.tag ∙ ap (λ (z : Sealed). z.tag) said
 
-      long : length is.cipher ≡ n - at
+      long : length is.cipher ≡ n - start
       long =
-          length-cipher-text (cipher key) nonce l (take at d) (drop at (take n d))
-          ∙ length-drop at (take n d)
-          ∙ ap (λ (j : ℕ). j - at) (length-take-le n d k)
+          length-cipher-text (cipher_by k) nonce l (take start d) (drop start (take n d))
+          ∙ length-drop start (take n d)
+          ∙ ap (λ (j : ℕ). j - start) (length-take-le n d b)
 
-      ending : n ≡ at + length is.cipher
+      ending : n ≡ start + length is.cipher
       ending = omega (arith, long)
 
-      first : Put d at is.cipher n (f ++ drop n d)
+      first : Over w start is.cipher v
       first =
           record {
-            next = ending;
+            next = va ∙ ending;
             same =
-                ap (λ (x : List ℕ). x ++ drop n d) (s.frame ∙ ap₂ (λ (x : List ℕ) (z : Sealed). x ++ z.cipher) front said)
-                ∙ ap (λ (j : ℕ). (take at d ++ is.cipher) ++ drop j d) ending
-                ∙ sym (sets-eq is.cipher d at (omega (arith, ending)));
+                sym (take-append-drop n v.out.now) ∙ ap₂ (λ (x y : List ℕ). x ++ y) (s.frame ∙ ap₂ (λ (x : List ℕ) (z : Sealed). x ++ z.cipher) front said) e
+                ∙ ap (λ (j : ℕ). (take start d ++ is.cipher) ++ drop j d) ending
+                ∙ sym (sets-eq is.cipher d start (omega (arith, ending)));
+            out = vr;
           }
 
-  pub secured-put : (h : Header) (q : Request) (c : ℕ) (o p : List ℕ) {d d₁ d₂ d₃ d₄ : List ℕ} {at n m r : ℕ} → q.level ≡ l → Ready h q o p (length d)
-      → Put d 0 (head_octets h ++ (aux_octets q c ++ o)) at d₁ → Put d₁ at p n d₂
-      → Put d₂ at (closed (sealed (cipher key) nonce l (take at d₂) (drop at (take n d₂)))) m d₃
-      → Put d₃ m (fcs (take m d₃)) r d₄ → Put d 0 (with_fcs (secured_by (cipher key) nonce l (head_octets h ++ (aux_octets q c ++ o)) p)) r d₄
-  secured-put h q c o p {at = at} e w pa pb pc pd =
-      let b : at + length p + tag_len q.level + 2 ≤ 127 = open-ends h q c o p _ at w pa.next in
-      secured-by (cipher key) (length-cipher key) nonce l (head_octets h ++ (aux_octets q c ++ o)) p
-      (rw (← e) (omega (arith, pa.next, w.room))) pa pb pc pd
+  pub secured-put : (h : Header) (q : Request) (c : ℕ) (o p : List ℕ) {w w₁ w₂ w₃ w₄ : Writer} → q.level ≡ l → Ready h q o p → w.at ≡ 0 → 127 ≤ length w.out.now
+      → Put w (head_octets h ++ (aux_octets q c ++ o)) w₁ → Put w₁ p w₂
+      → Over w₂ w₁.at (closed (sealed (cipher_by k) nonce l (take w₁.at w₂.out.now) (drop w₁.at (take w₂.at w₂.out.now)))) w₃
+      → Put w₃ (fcs (take w₃.at w₃.out.now)) w₄
+      → Put w (with_fcs (secured_by (cipher_by k) nonce l (head_octets h ++ (aux_octets q c ++ o)) p)) w₄
+  secured-put h q c o p {w₁ = w₁} e r z n pa pb pc pd =
+      let b : w₁.at + length p + tag_len q.level + 2 ≤ 127 = open-ends h q c o p w₁.at r (omega (arith, pa.next, z)) in
+      secured-by (cipher_by k) (length-by k) nonce l (head_octets h ++ (aux_octets q c ++ o)) p z
+      (rw (← e) (omega (arith, pa.next, z, n))) pa pb pc pd
 
-pub secured-long : (key nonce : List ℕ) (h : Header) (q : Request) (c : ℕ) (o p : List ℕ) (n : ℕ) → Ready h q o p n
-    → length (with_fcs (secured_by (cipher key) nonce q.level (head_octets h ++ (aux_octets q c ++ o)) p)) ≤ n
-secured-long key nonce h q c o p n w =
+pub secured-long : (key nonce : List ℕ) (h : Header) (q : Request) (c : ℕ) (o p : List ℕ) → Ready h q o p
+    → length (with_fcs (secured_by (cipher key) nonce q.level (head_octets h ++ (aux_octets q c ++ o)) p)) ≤ 127
+secured-long key nonce h q c o p w =
     let a : List ℕ = head_octets h ++ (aux_octets q c ++ o) in
-    omega (arith, w.room, open-ends h q c o p n (0 + length a) w refl, length-secured (cipher key) (length-cipher key) nonce q.level a p)
+    omega (arith, open-ends h q c o p (0 + length a) w refl, length-secured (cipher key) (length-cipher key) nonce q.level a p)

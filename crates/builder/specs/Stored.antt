@@ -1,8 +1,7 @@
 -- What the writing functions promise, and what they ask. Assumes nothing: these are definitions.
--- Put     octets are stored from a place on, and the next place is given
+-- Laid    octets stand in front of a buffer, n of them; all other octets stay
 -- Small   a header's fields are in range
--- Open    header, security header and open payload have room in n octets
--- Ready   the whole frame has
+-- Ready   what a frame is written from is in range, and the frame has at most 127 octets
 -- closed  cipher text and tag, as they stand in a frame
 -- secured_by  a frame under the block cipher E without its FCS: a is open to all, p private
 use Rattle.std.specs.Prelude.{◌≡◌, List, ◌++◌, ℕ, ◌+◌, ◌≤◌, length}
@@ -13,9 +12,9 @@ use Rattle.meaning.specs.Build.{head_octets, aux_octets}
 use Rattle.meaning.specs.declared.Header.{Header}
 use Rattle.meaning.specs.declared.Request.{Request}
 
-pub record Put (d : List ℕ) (at : ℕ) (xs : List ℕ) (r : ℕ) (d' : List ℕ) : Type 0 where
-  pub next : r ≡ at + length xs
-  pub same : d' ≡ sets d at xs
+pub record Laid (d xs : List ℕ) (n : ℕ) (d' : List ℕ) : Type 0 where
+  pub next : n ≡ length xs
+  pub same : d' ≡ sets d 0 xs
 
 pub record Small (h : Header) : Type 0 where
   pub kind : h.kind ≤ 3
@@ -27,18 +26,10 @@ pub record Small (h : Header) : Type 0 where
   pub to : h.destination.mode ≤ 3
   pub from : h.source.mode ≤ 3
 
-pub record Open (h : Header) (q : Request) (c : ℕ) (o : List ℕ) (n : ℕ) : Type 0 where
+pub record Ready (h : Header) (q : Request) (o p : List ℕ) : Type 0 where
   pub small : Small h
   pub level : q.level ≤ 7
   pub mode : q.keymode ≤ 3
-  pub room : 37 ≤ n
-  pub fits : length (head_octets h) + (length (aux_octets q c) + length o) ≤ n
-
-pub record Ready (h : Header) (q : Request) (o p : List ℕ) (n : ℕ) : Type 0 where
-  pub small : Small h
-  pub level : q.level ≤ 7
-  pub mode : q.keymode ≤ 3
-  pub room : 127 ≤ n
   pub fits : length (head_octets h) + length (aux_octets q 0) + length o + length p + tag_len q.level + 2 ≤ 127
 
 unfoldable pub closed : Sealed → List ℕ

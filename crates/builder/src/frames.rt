@@ -1,78 +1,122 @@
-// Writes whole frames from the buffer's first octet on; all octets after the frame stay.
-ghost use Rattle.std.specs.Prelude.{◌≡◌, ◌++◌, ◌+◌, ◌≤◌, ◌<◌, length, take, drop};
-ghost use Rattle.meaning.specs.Frame.{tag_len};
-ghost use Rattle.meaning.specs.Fcs.{IsTable};
-ghost use Rattle.meaning.specs.Sbox.{IsSbox};
-ghost use Rattle.meaning.specs.Cipher.{cipher};
-ghost use Rattle.meaning.specs.Ccm.{sealed};
-ghost use Rattle.meaning.specs.Build.{head_octets, aux_octets, with_fcs, plain_body};
-ghost use Rattle.builder.specs.Stored.{Put, Ready, closed, secured_by};
+// Writes a whole frame, part after part.
+ghost use Rattle.std.specs.Prelude.{◌≡◌, ◌++◌};
+ghost use Rattle.aes.specs.Schedule.{cipher_by};
+ghost use Rattle.meaning.specs.Build.{header_by, first_octet, second_octet, head_octets, aux_octets, with_fcs, plain_body};
+ghost use Rattle.octets.specs.Writing.{Room, Put};
+ghost use Rattle.builder.specs.Stored.{Laid, Ready, secured_by};
 
-use crate::put::{put_all, put_fcs, put_open};
-use meaning::{Header, Request};
+use crate::header::header_by;
+use crate::order::Order;
+use crate::put::{put_fcs, put_key_id, put_placed, put_source, seal};
+use ccm::Keyed;
+use meaning::Header;
+use octets::Writer;
+use records::Settings;
 
-// A frame without security.
-pub fn put_plain(
-    table: &[u16; 256],
-    out: &mut [u8],
-    h: Header,
-    q: Request,
-    opens: &[u8],
-    private: &[u8],
-) -> usize
-    requires table { IsTable table.now }
-    requires level_value { q.level ≡ 0 }
-    requires ready { Ready h q opens.now private.now (length out.old) }
-    ensures { Put out.old 0 (with_fcs (plain_body (head_octets h) opens.now private.now)) result out.new }
-{
-    let at = put_open(out, h, q, 0, opens);
-    let end = put_all(out, at, private);
-    put_fcs(table, out, end)
+// An order that may be built, with its header: the fields are in range, and the frame has at most 127 octets.
+#[derive(Clone, Copy)]
+pub struct Draft<'a> {
+    pub header: Header,
+    pub order: Order<'a>,
+    pub ghost ready: { Ready header order.q order.opens.now order.private.now },
 }
 
-// Seals what stands in the buffer before `end`: from `at` on the cipher text, and the tag after it.
-pub fn put_sealed(
-    sbox: &[u8; 256],
-    key: &[u8],
-    nonce: [u8; 13],
-    level: u8,
-    d: &mut [u8],
-    at: usize,
-    end: usize,
-) -> usize
-    requires sbox { IsSbox sbox.now }
-    requires key_len { length key.now ≡ 16 }
-    requires at_le_end { (at ≤ end) × (end < 128) }
-    requires level_in_bounds { end + tag_len level ≤ length d.old }
-    ensures { Put d.old at (closed (sealed (cipher key.now) nonce level (take at d.old) (drop at (take end d.old)))) result d.new }
-{
-    let schedule = aes::schedule(sbox, key);
-    let tag = ccm::seal(sbox, &schedule, nonce, level, &mut d[..end], at);
-    let n = modes::tag_len(level);
-    put_all(d, end, &tag[..n])
-}
+impl<'a> Draft<'a> {
+    // With the header that the settings give.
+    pub fn new(settings: Settings, order: Order<'a>) -> Draft<'a>
+        requires { Ready (header_by settings.octets.now order.q) order.q order.opens.now order.private.now }
+        ensures header { result.header ≡ header_by settings.entry.octets.now order.entry.q }
+        ensures order { result.order ≡ order.entry }
+    {
+        Draft {
+            header: header_by(settings, order.q),
+            order,
+        }
+    }
 
-// A frame under a key: the header, the security header and the open payload are authenticated with the private payload.
-pub fn put_secured(
-    table: &[u16; 256],
-    sbox: &[u8; 256],
-    key: &[u8],
-    nonce: [u8; 13],
-    out: &mut [u8],
-    h: Header,
-    q: Request,
-    counter: u32,
-    opens: &[u8],
-    private: &[u8],
-) -> usize
-    requires table { IsTable table.now }
-    requires sbox { IsSbox sbox.now }
-    requires key_len { length key.now ≡ 16 }
-    requires ready { Ready h q opens.now private.now (length out.old) }
-    ensures { Put out.old 0 (with_fcs (secured_by (cipher key.now) nonce q.level (head_octets h ++ (aux_octets q counter ++ opens.now)) private.now)) result out.new }
-{
-    let at = put_open(out, h, q, counter, opens);
-    let end = put_all(out, at, private);
-    let tagged = put_sealed(sbox, key, nonce, q.level, out, at, end);
-    put_fcs(table, out, tagged)
+    // The first octet of frame control.
+    #[tactic(auto, unfolding(meaning::specs::Build::first_octet))]
+    pub fn first_octet(&self) -> u8
+        ensures { result ≡ first_octet self.now.header }
+    {
+        let h = self.header;
+        h.kind + 8 * h.security + 16 * h.pending + 32 * h.request + 64 * h.compression
+    }
+
+    // The second octet of frame control.
+    #[tactic(auto, unfolding(meaning::specs::Build::second_octet))]
+    pub fn second_octet(&self) -> u8
+        ensures { result ≡ second_octet self.now.header }
+    {
+        let h = self.header;
+        4 * h.destination.mode + 16 * h.version + 64 * h.source.mode
+    }
+
+    // The header.
+    pub fn put_head(&self, w: &mut Writer)
+        requires { Room w.old 23 }
+        ensures { Put w.old (head_octets self.now.header) w.new }
+    {
+        w.octet(self.first_octet());
+        w.octet(self.second_octet());
+        w.octet(self.header.sequence);
+        put_placed(w, self.header.destination);
+        put_source(w, self.header);
+    }
+
+    // The security header with its counter; nothing at level 0.
+    pub fn put_aux(&self, counter: u32, w: &mut Writer)
+        requires { Room w.old 14 }
+        ensures { Put w.old (aux_octets self.now.order.q counter) w.new }
+    {
+        if self.order.q.level != 0 {
+            w.octet(self.order.q.level + 8 * self.order.q.keymode);
+            w.word(counter);
+            put_key_id(w, self.order.q);
+        }
+    }
+
+    // What is open to all: header, security header and open payload.
+    #[tactic(auto, using(crate::proofs::Puts::opens))]
+    pub fn put_open(&self, counter: u32, w: &mut Writer)
+        requires { Room w.old 127 }
+        ensures { Put w.old (head_octets self.now.header ++ (aux_octets self.now.order.q counter ++ self.now.order.opens.now)) w.new }
+    {
+        self.put_head(w);
+        self.put_aux(counter, w);
+        w.all(self.order.opens);
+    }
+
+    // A frame without security, from the buffer's first octet on. Gives its length.
+    pub fn put_plain(&self, table: &fcs::Table, out: &mut [u8; 127]) -> usize
+        requires { self.now.order.q.level ≡ 0 }
+        ensures { Laid out.old (with_fcs (plain_body (head_octets self.now.header) self.now.order.opens.now self.now.order.private.now)) result out.new }
+    {
+        let mut w = Writer::new(out);
+        self.put_open(0, &mut w);
+        w.all(self.order.private);
+        put_fcs(&mut w, table);
+        w.at
+    }
+
+    // A frame under a key, from the buffer's first octet on: the header, the security header and the open payload are authenticated with the private payload.
+    // Gives its length.
+    pub fn put_secured(
+        &self,
+        table: &fcs::Table,
+        keyed: &Keyed,
+        counter: u32,
+        out: &mut [u8; 127],
+    ) -> usize
+        requires { keyed.now.level.0 ≡ self.now.order.q.level }
+        ensures { Laid out.old (with_fcs (secured_by (cipher_by keyed.now.cipher.now.schedule) keyed.now.nonce keyed.now.level.0 (head_octets self.now.header ++ (aux_octets self.now.order.q counter ++ self.now.order.opens.now)) self.now.order.private.now)) result out.new }
+    {
+        let mut w = Writer::new(out);
+        self.put_open(counter, &mut w);
+        let start = w.at;
+        w.all(self.order.private);
+        seal(&mut w, start, keyed);
+        put_fcs(&mut w, table);
+        w.at
+    }
 }

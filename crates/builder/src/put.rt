@@ -1,145 +1,91 @@
-// Writes a frame's parts, one after the other. Each function stores its octets from a place on, leaves all others, and gives the next place.
-ghost use Rattle.std.specs.Prelude.{◌≡◌, [], ◌∷◌, ◌++◌, ◌+◌, ◌≤◌, length, take};
-ghost use Rattle.meaning.specs.Fcs.{fcs, IsTable};
-ghost use Rattle.meaning.specs.Build.{first_octet, second_octet, address_octets, placed_octets, source_octets, head_octets, key_id_octets, aux_octets};
-ghost use Rattle.builder.specs.Stored.{Put, Small, Open};
+// Writes a frame's parts, one after the other, each from the writer's place on.
+ghost use Rattle.std.specs.Prelude.{◌≡◌, ◌≤◌, ◌<◌, length, take, drop};
+ghost use Rattle.meaning.specs.Frame.{tag_len};
+ghost use Rattle.meaning.specs.Fcs.{fcs};
+ghost use Rattle.meaning.specs.Ccm.{sealed};
+ghost use Rattle.meaning.specs.Build.{address_octets, placed_octets, source_octets, key_id_octets};
+ghost use Rattle.aes.specs.Schedule.{cipher_by};
+ghost use Rattle.ccm.specs.Tags.{Sealing};
+ghost use Rattle.octets.specs.Writing.{Room, Over, Put};
+ghost use Rattle.builder.specs.Stored.{closed};
 
+use ccm::Keyed;
 use meaning::{Address, Header, Request};
+use octets::Writer;
 
-// The first octet of frame control.
-pub fn first_octet(h: Header) -> u8
-    requires { Small h }
-    ensures { result ≡ first_octet h }
+// Seals the octets before `end`, those from `start` on as the private payload, and gives the tag. A slice of its own: of a part of the writer's field only the length would be known after the call.
+fn seal_front(d: &mut [u8], end: usize, start: usize, keyed: &Keyed) -> [u8; 16]
+    requires start { (start ≤ end) × (end < 128) }
+    requires end { end ≤ length d.old }
+    ensures front { Sealing (cipher_by keyed.now.cipher.now.schedule) keyed.now.nonce keyed.now.level.0 start (take end d.old) (take end d.new) result }
+    ensures rest { drop end d.new ≡ drop end d.old }
 {
-    h.kind + 8 * h.security + 16 * h.pending + 32 * h.request + 64 * h.compression
-}
-
-// The second octet of frame control.
-pub fn second_octet(h: Header) -> u8
-    requires { Small h }
-    ensures { result ≡ second_octet h }
-{
-    let to = h.destination;
-    let from = h.source;
-    4 * to.mode + 16 * h.version + 64 * from.mode
-}
-
-// All of a slice.
-pub fn put_all(d: &mut [u8], at: usize, s: &[u8]) -> usize
-    requires { at + length s.now ≤ length d.old }
-    ensures { Put d.old at s.now result d.new }
-{
-    octets::copy_in(d, at, s);
-    at + s.len()
-}
-
-// One octet.
-pub fn put_octet(d: &mut [u8], at: usize, x: u8) -> usize
-    requires { at + 1 ≤ length d.old }
-    ensures { Put d.old at (x ∷ []) result d.new }
-{
-    d[at] = x;
-    at + 1
+    keyed.seal(&mut d[..end], start)
 }
 
 // An address, by its mode.
-pub fn put_address(d: &mut [u8], at: usize, a: Address) -> usize
-    requires { at + 8 ≤ length d.old }
-    ensures { Put d.old at (address_octets a) result d.new }
+pub fn put_address(w: &mut Writer, a: Address)
+    requires { Room w.old 8 }
+    ensures { Put w.old (address_octets a) w.new }
 {
-    if a.mode == 2 {
-        octets::put16(d, at, (a.address % 65536) as u16);
-        return at + 2;
+    match a.mode {
+        2 => w.word((a.address % 65536) as u16),
+        3 => w.word(a.address),
+        _ => (),
     }
-    if a.mode == 3 {
-        octets::put64(d, at, a.address);
-        return at + 8;
-    }
-    at
 }
 
 // PAN and address, where there is one.
-pub fn put_placed(d: &mut [u8], at: usize, a: Address) -> usize
-    requires { at + 10 ≤ length d.old }
-    ensures { Put d.old at (placed_octets a) result d.new }
+#[tactic(auto, using(crate::proofs::Puts::placed))]
+pub fn put_placed(w: &mut Writer, a: Address)
+    requires { Room w.old 10 }
+    ensures { Put w.old (placed_octets a) w.new }
 {
-    if a.mode == 0 {
-        return at;
+    if a.mode != 0 {
+        w.word(a.pan);
+        put_address(w, a);
     }
-    octets::put16(d, at, a.pan);
-    put_address(d, at + 2, a)
 }
 
 // The source; compression drops its PAN.
-pub fn put_source(d: &mut [u8], at: usize, h: Header) -> usize
-    requires { at + 10 ≤ length d.old }
-    ensures { Put d.old at (source_octets h) result d.new }
+pub fn put_source(w: &mut Writer, h: Header)
+    requires { Room w.old 10 }
+    ensures { Put w.old (source_octets h) w.new }
 {
-    let source = h.source;
     if h.compression == 1 {
-        return put_address(d, at, source);
+        put_address(w, h.source);
+    } else {
+        put_placed(w, h.source);
     }
-    put_placed(d, at, source)
-}
-
-// The header.
-pub fn put_head(d: &mut [u8], h: Header) -> usize
-    requires small { Small h }
-    requires in_bounds { 23 ≤ length d.old }
-    ensures { Put d.old 0 (head_octets h) result d.new }
-{
-    let first = put_octet(d, 0, first_octet(h));
-    let second = put_octet(d, first, second_octet(h));
-    let third = put_octet(d, second, h.sequence);
-    let placed = put_placed(d, third, h.destination);
-    put_source(d, placed, h)
 }
 
 // The key identifier.
-pub fn put_key_id(d: &mut [u8], at: usize, q: Request) -> usize
-    requires { at + 9 ≤ length d.old }
-    ensures { Put d.old at (key_id_octets q) result d.new }
+#[tactic(auto, using(crate::proofs::Puts::key_ids))]
+pub fn put_key_id(w: &mut Writer, q: Request)
+    requires { Room w.old 9 }
+    ensures { Put w.old (key_id_octets q) w.new }
 {
-    let source = q.keysource;
-    if q.keymode == 0 {
-        return at;
+    if q.keymode != 0 {
+        w.all(&q.keysource[..frame::key_source_len(q.keymode)]);
+        w.octet(q.keyindex);
     }
-    let n = frame::key_source_len(q.keymode);
-    let next = put_all(d, at, &source[..n]);
-    put_octet(d, next, q.keyindex)
 }
 
-// The security header with its counter; nothing at level 0.
-pub fn put_aux(d: &mut [u8], at: usize, q: Request, counter: u32) -> usize
-    requires level_bound { (q.level ≤ 7) × (q.keymode ≤ 3) }
-    requires at_in_bounds { at + 14 ≤ length d.old }
-    ensures { Put d.old at (aux_octets q counter) result d.new }
+// Seals what was written: from `start` on the cipher text, and the tag after it.
+pub fn seal(w: &mut Writer, start: usize, keyed: &Keyed)
+    requires start { (start ≤ w.old.at) × (w.old.at < 128) }
+    requires room { Room w.old (tag_len keyed.now.level.0) }
+    ensures { Over w.old start (closed (sealed (cipher_by keyed.now.cipher.now.schedule) keyed.now.nonce keyed.now.level.0 (take start w.old.out.now) (drop start (take w.old.at w.old.out.now)))) w.new }
 {
-    if q.level == 0 {
-        return at;
-    }
-    let next = put_octet(d, at, q.level + 8 * q.keymode);
-    octets::put32(d, next, counter);
-    put_key_id(d, next + 4, q)
+    let tag = seal_front(w.out, w.at, start, keyed);
+    w.all(&tag[..keyed.level.tag_len()]);
 }
 
-// What is open to all: header, security header and open payload.
-pub fn put_open(d: &mut [u8], h: Header, q: Request, counter: u32, opens: &[u8]) -> usize
-    requires { Open h q counter opens.now (length d.old) }
-    ensures { Put d.old 0 (head_octets h ++ (aux_octets q counter ++ opens.now)) result d.new }
+// The FCS of all before it.
+pub fn put_fcs(w: &mut Writer, table: &fcs::Table)
+    requires { Room w.old 2 }
+    ensures { Put w.old (fcs (take w.old.at w.old.out.now)) w.new }
 {
-    let head = put_head(d, h);
-    let aux = put_aux(d, head, q, counter);
-    put_all(d, aux, opens)
-}
-
-// The FCS of the n octets before it.
-pub fn put_fcs(table: &[u16; 256], d: &mut [u8], n: usize) -> usize
-    requires table { IsTable table.now }
-    requires n_in_bounds { n + 2 ≤ length d.old }
-    ensures { Put d.old n (fcs (take n d.old)) result d.new }
-{
-    let sum = fcs::sum_with(table, &d[..n]);
-    octets::put16(d, n, sum);
-    n + 2
+    let sum = table.sum(w.written());
+    w.word(sum);
 }

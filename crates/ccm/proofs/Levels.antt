@@ -11,7 +11,6 @@ use borrow.Rule.Slice.PartMut.{put_mid, Post-is}
 use Rattle.meaning.specs.Octets.{pick, part, beside, same}
 use Rattle.meaning.specs.Frame.{tag_len, enciphers}
 use Rattle.meaning.specs.Ccm.{tag_of, crypt, sealed_by, sealed, unsealed_by, unsealed}
-use Rattle.meaning.proofs.Tests.{on-by, off-by}
 use Rattle.meaning.proofs.Stores.{sets-beside, take-beside, drop-beside}
 use Rattle.meaning.proofs.Ccm.{length-crypt}
 use Rattle.ccm.specs.Tags.{whole_tag, crypt_by, tag_by, Sealing, Opening}
@@ -25,26 +24,6 @@ pub rest : (n : ℕ) (s : List ℕ) → take (length s - n) (drop n s) ≡ drop 
 rest n s = take_all (length s - n) (drop n s) (omega (arith, length-drop n s))
 
 module _ (E : List ℕ → List ℕ) (nonce : List ℕ) (l : ℕ) where
-  -- u is the callee's answer whether the level enciphers
-  module _ {r : List ℕ} (u : Bool) (d : u ≡ enciphers l) where
-    pub crypt-on : (q : List ℕ) → u ≡ true → r ≡ crypt E nonce q → r ≡ crypt_by E nonce l q
-    unfolding crypt_by
-    crypt-on q h e = on-by _ u _ _ _ d h e
-
-    pub crypt-off : (q : List ℕ) → u ≡ false → r ≡ q → r ≡ crypt_by E nonce l q
-    unfolding crypt_by
-    crypt-off q h e = off-by _ u _ _ _ d h e
-
-    pub tag-on : (m : ℕ) (clear : List ℕ) (n : ℕ) (text : List ℕ) → m ≡ tag_len l → u ≡ true → r ≡ whole_tag E nonce m (take n clear) text
-        → r ≡ tag_by E nonce l clear n text
-    unfolding tag_by
-    tag-on m clear n text c h e = on-by _ u _ _ _ d h (rw c at e)
-
-    pub tag-off : (m : ℕ) (clear : List ℕ) (n : ℕ) (text : List ℕ) → m ≡ tag_len l → u ≡ false → r ≡ whole_tag E nonce m clear []
-        → r ≡ tag_by E nonce l clear n text
-    unfolding tag_by
-    tag-off m clear n text c h e = off-by _ u _ _ _ d h (rw c at e)
-
   length-by-level : (q : List ℕ) → length (crypt_by E nonce l q) ≡ length q
   unfolding crypt_by
   length-by-level q = go (enciphers l)
@@ -73,9 +52,10 @@ module _ (E : List ℕ → List ℕ) (nonce : List ℕ) (l : ℕ) where
         go true = refl
         go false = ap (λ (s : List ℕ). take (tag_len l) (whole_tag E nonce (tag_len l) s [])) (sym (take-append-drop n f))
 
-    pub sealing : (y r : List ℕ) → n ≤ length f → y ≡ crypt_by E nonce l (take (length f - n) (drop n f)) → r ≡ tag_by E nonce l f n (drop n f)
-        → Sealing E nonce l n f (put_mid n (length f - n) f y) r
-    sealing y r h ey er =
+    pub sealing : (y r : List ℕ) → n ≤ length f → y ≡ crypt_by E nonce l (take (length f - n) (drop n f))
+        → r ≡ tag_by E nonce l f n (take (length f - n) (drop n f)) → Sealing E nonce l n f (put_mid n (length f - n) f y) r
+    sealing y r h ey et =
+        let er : r ≡ tag_by E nonce l f n (drop n f) = et ∙ ap (tag_by E nonce l f n) (rest n f) in
         let e : y ≡ (sealed E nonce l (take n f) (drop n f)).cipher = ey ∙ ap (crypt_by E nonce l) (rest n f) ∙ cipher-is in
         record {
           frame =

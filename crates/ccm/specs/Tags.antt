@@ -1,24 +1,14 @@
 -- What the functions of this crate give, in the words of the standard's definitions. Assumes nothing: these are definitions.
--- led        a list, with its length in two octets before it or without
--- sum        a block of a list, zeros past its end, plus the chaining value
 -- chain_over, chain_data   the chaining value after a list, zeros to a whole block; after authenticated data
 -- whole_tag   the sixteen octets that a tag is cut from
 -- crypt_by    a message as its level enciphers it
 -- tag_by      the same sixteen by level: below 4 all is authenticated data
 -- Sealing    a frame sealed in place
 -- Opening    what opening a body says and leaves
-use Rattle.std.specs.Prelude.{◌≡◌, Bool, true, false, List, [], ◌++◌, ℕ, ◌+◌, ◌/◌, length, get_or, take, drop}
-use Rattle.std.specs.Int.Bits.{bit_xor}
-use Rattle.meaning.specs.Octets.{pick, tab, beside, part}
+use Rattle.std.specs.Prelude.{◌≡◌, Bool, List, [], ◌++◌, ℕ, ◌+◌, ◌/◌, length, take, drop}
+use Rattle.meaning.specs.Octets.{pick, beside, part}
 use Rattle.meaning.specs.Frame.{tag_len, enciphers}
-use Rattle.meaning.specs.Ccm.{xor_by, size16, padded, data_blocks, blocks_of, counter_block, chain, mac_of, crypt, sealed, unsealed}
-
-unfoldable pub led : Bool → List ℕ → List ℕ
-led true s = size16 (length s) ++ s
-led false s = s
-
-unfoldable pub sum : List ℕ → ℕ → List ℕ → List ℕ
-sum s at x = tab (λ i. bit_xor (get_or s (at + i) 0) (get_or x i 0)) 16
+use Rattle.meaning.specs.Ccm.{xor_by, padded, data_blocks, blocks_of, counter_block, chain, mac_of, crypt, sealed, unsealed}
 
 module _ (E : List ℕ → List ℕ) where
   unfoldable pub chain_over : List ℕ → List ℕ → List ℕ

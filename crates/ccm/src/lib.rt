@@ -1,5 +1,5 @@
 // CCM* (standard, Annex B) over AES-128: nonce, tag, key stream; sealing a frame in place, and opening one into a scratch buffer.
-// The S-box `t` and the key's schedule `w` are made once by the crate aes and lent; no function changes them.
+// The cipher is made once for a key by the crate aes, and lent.
 // Clients cite specs/Ccm.antt of the meaning and specs/Tags.antt here.
 #![tactic(auto)]
 
@@ -10,5 +10,5 @@ mod stream;
 
 pub use formatting::nonce;
 pub use mac::tag;
-pub use sealing::{seal, unseal};
+pub use sealing::Keyed;
 pub use stream::crypt;

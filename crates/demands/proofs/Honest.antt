@@ -11,9 +11,8 @@ use Rattle.meaning.specs.Frame.{tag_len, View, view, cuts_of, open_end}
 use Rattle.meaning.specs.Fcs.{inner, fcs, fcs_right}
 use Rattle.meaning.specs.Records.{Store}
 use Rattle.meaning.specs.Site.{store_of}
-use Rattle.meaning.specs.Receive.{Outcome, received}
+use Rattle.meaning.specs.Receive.{Judged, Outcome, received}
 use Rattle.meaning.specs.Build.{header_by, head_octets, aux_octets, with_fcs, frame_len}
-use Rattle.meaning.specs.declared.Judged.{Judged}
 use Rattle.meaning.specs.declared.Request.{Request}
 use Rattle.demands.specs.Round.{Octets, Ranged, Sent, frame_sent, Taken, report_of}
 use Rattle.demands.specs.Secrecy.{AlikeSites, outside, AlikeFrames}

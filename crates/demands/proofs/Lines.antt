@@ -6,8 +6,7 @@ use mathlib.Core.List.{List, [], ◌∷◌}
 use lib.ListN.{length, replicate, length-drop}
 use Rattle.meaning.specs.Octets.{le_at}
 use Rattle.meaning.specs.Loading.{site_of}
-use Rattle.meaning.specs.Receive.{received}
-use Rattle.meaning.specs.declared.Received.{Received}
+use Rattle.meaning.specs.Receive.{Received, received}
 use Rattle.lines.specs.Log.{items, answers, printed_with, printed_sized, printed}
 use Rattle.lines.proofs.Log.{printed-same}
 use Rattle.demands.specs.Secrecy.{Agree, Secret}

@@ -9,9 +9,8 @@ use lib.ListN.{length, get_or, drop}
 use Rattle.meaning.specs.Octets.{octs}
 use Rattle.meaning.specs.Records.{width_of, limit_of, start_by}
 use Rattle.meaning.specs.File.{file_most}
-use Rattle.meaning.specs.Receive.{refusal, keep, raise, Outcome, received}
+use Rattle.meaning.specs.Receive.{Received, refusal, keep, raise, Outcome, received}
 use Rattle.meaning.specs.declared.Refusal.TheVariants.{Fcs, Filtered, CounterError}
-use Rattle.meaning.specs.declared.Received.{Received}
 use Rattle.lines.specs.Text.{ascii, name_of, decimal, decimal_by, line_of}
 use Rattle.lines.specs.Log.{answers, lines_from, printed}
 use Rattle.demands.specs.Lines.{AlikeInputs, SameLines, input_of}

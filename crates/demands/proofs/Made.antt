@@ -1,4 +1,5 @@
 -- A build that succeeds: what its checks have found, and its frame: by going back through the checks, of which each could have refused. Assumes nothing.
+use Rattle.std.specs.Prelude.{Option, Some, None}
 use mathlib.Core.Path.{◌≡◌, refl, ap, ◌∙◌}
 use mathlib.Core.Logic.{◌≢◌}
 use Prim.Native.Nat.{ℕ, ◌≤◌}
@@ -35,8 +36,6 @@ use Rattle.meaning.specs.Build.{
   built_valid,
   built,
 }
-use Rattle.meaning.specs.declared.Found.{Found}
-use Rattle.meaning.specs.declared.Found.TheVariants.{At, Nothing}
 use Rattle.meaning.specs.declared.Refusal.{Refusal}
 use Rattle.meaning.specs.declared.Refusal.TheVariants.{
   Site,
@@ -109,10 +108,10 @@ module _ (σ : Store) (q : Request) (o p : List ℕ) (f : List ℕ) (u : Bool) w
       (secured_body k (extended_address σ.tables.settings) σ.own q.level (head_octets (header_by σ.tables.settings q))
       (aux_octets q σ.own) o p)
 
-  on-lookup : (w : Found) → on_lookup σ q o p w ≡ frame f u → f ≡ under (key_in σ w)
+  on-lookup : (w : Option ℕ) → on_lookup σ q o p w ≡ frame f u → f ≡ under (key_in σ w)
   unfolding on_lookup secured key_in
-  on-lookup Nothing e = refuse-frame e
-  on-lookup (At i) e = cc
+  on-lookup None e = refuse-frame e
+  on-lookup (Some i) e = cc
 
   making : (room : ℕ) → made σ q o p room ≡ frame f u → Making σ q o p f
   unfolding made on_counter key_sent
@@ -122,7 +121,7 @@ module _ (σ : Store) (q : Request) (o p : List ℕ) (f : List ℕ) (u : Bool) w
       t : List ℕ
       t = σ.tables.settings
 
-      row : Found
+      row : Option ℕ
       row = key_row σ.tables.lookups t q.keymode q.keyindex q.keysource (peer_of t (fitted q.destination))
 
       way : Made

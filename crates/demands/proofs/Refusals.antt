@@ -1,4 +1,5 @@
 -- Demand 1, on the meaning: receiving and building give one listed status, and a refusal changes nothing lent. One place writes in each. Assumes nothing.
+use Rattle.std.specs.Prelude.{Ok, Err}
 use mathlib.Core.Path.{◌≡◌, refl}
 use mathlib.Core.Logic.{◌⊎◌, inl, inr, ◌≢◌}
 use Prim.Native.Nat.{ℕ, suc, ◌≤◌}
@@ -15,6 +16,7 @@ use Rattle.meaning.specs.Fcs.{inner}
 use Rattle.meaning.specs.Records.{Store}
 use Rattle.meaning.specs.Site.{site_rule, store_of}
 use Rattle.meaning.specs.Receive.{
+  Judged,
   judged,
   refusal,
   report,
@@ -54,8 +56,7 @@ use Rattle.meaning.specs.declared.Refusal.TheVariants.{
   FrameTooLong,
   InvalidParameter,
 }
-use Rattle.meaning.specs.declared.Judged.{Judged}
-use Rattle.meaning.specs.declared.Judged.TheVariants.{Refused, Plain, Secure}
+use Rattle.meaning.specs.declared.Passed.TheVariants.{Plain, Secure}
 use Rattle.meaning.specs.declared.Request.{Request}
 
 -- the numbers of refusals are 1 to 17
@@ -105,9 +106,9 @@ sound-admit false w v l d r = tt
 
 sound-settle : (σ : Store) (v : View) (b : List ℕ) (u : Judged) → Sound (settle σ v b u)
 unfolding settle report
-sound-settle σ v b (Refused r) = tt
-sound-settle σ v b Plain = refl
-sound-settle σ v b (Secure k j d) = sound-admit _ _ v _ (suc d) _
+sound-settle σ v b (Err r) = tt
+sound-settle σ v b (Ok Plain) = refl
+sound-settle σ v b (Ok (Secure k j d)) = sound-admit _ _ v _ (suc d) _
 
 sound-verdict : (σ : Store) (room : ℕ) (f : List ℕ) → Sound (verdict σ room f)
 unfolding verdict

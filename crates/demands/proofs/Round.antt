@@ -8,9 +8,8 @@ use lib.ListN.{length, drop}
 use Rattle.meaning.specs.Octets.{beside}
 use Rattle.meaning.specs.Records.{settings, width_of, own_at, own_counter}
 use Rattle.meaning.specs.Site.{count_of, place_of, body, settings_of, tables_of, store_of}
-use Rattle.meaning.specs.Receive.{judged, raised_in, outcome, write, received_valid, received}
+use Rattle.meaning.specs.Receive.{Judged, judged, raised_in, outcome, write, received_valid, received}
 use Rattle.meaning.specs.Build.{header_by, aux_octets}
-use Rattle.meaning.specs.declared.Judged.{Judged}
 use Rattle.meaning.specs.declared.Request.{Request}
 use Rattle.meaning.proofs.Numbers.{le_at-lt}
 use Rattle.demands.specs.Round.{Octets, Sent, frame_sent, admission, Well-formed, Taken, raise_of, report_of, Comes-back}

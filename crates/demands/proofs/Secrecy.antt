@@ -1,5 +1,6 @@
 -- Demand 3 holds. Two frames that pair up have the same division, so they are judged alike; where both reach the tag their verdicts agree;
 -- so what is written differs at most in the private payload, and the sites stay alike. Then by induction over the lists. Assumes nothing.
+use Rattle.std.specs.Prelude.{Ok, Err}
 use mathlib.Core.Path.{◌≡◌, refl, sym, ap, ◌∙◌, subst}
 use mathlib.Core.Logic.{◌⊎◌, inl, inr, ⊎_elim}
 use Prim.Native.Nat.{ℕ, suc, ◌+◌, ◌-◌, ◌<◌, max}
@@ -19,6 +20,7 @@ use Rattle.meaning.specs.Site.{count_of, site_rule, tables_of, store_of}
 use Rattle.meaning.specs.Cipher.{cipher}
 use Rattle.meaning.specs.Ccm.{Opened}
 use Rattle.meaning.specs.Receive.{
+  Judged,
   judged,
   refusal,
   report,
@@ -45,8 +47,7 @@ use Rattle.meaning.specs.Receive.{
 }
 use Rattle.meaning.specs.declared.Refusal.{Refusal}
 use Rattle.meaning.specs.declared.Refusal.TheVariants.{Site, Room}
-use Rattle.meaning.specs.declared.Judged.{Judged}
-use Rattle.meaning.specs.declared.Judged.TheVariants.{Refused, Plain, Secure}
+use Rattle.meaning.specs.declared.Passed.TheVariants.{Plain, Secure}
 use Rattle.meaning.proofs.Lists.{take-pre, take-comm, drop-pre, drop_more, over}
 use Rattle.meaning.proofs.Frame.{view-same, open-end}
 use Rattle.meaning.proofs.Ccm.{length-text}
@@ -142,19 +143,19 @@ module _ (v : View) (n : ℕ) where
   near-admit true w z l d r e lw lz h = rw (e refl) (near-tagged z.right w.text z.text l d r lw lz h)
 
 tag-at : (σ : Store) (v : View) (b : List ℕ) (k j d : ℕ) → timely (stored σ.counters j d) (counter_of v.aux) ≡ true
-    → tag_at σ v b (Secure k j d) ≡ some (opened (key_at σ.keys k) (get_or σ.tables.devices d no_device).extended v b).right
+    → tag_at σ v b (Ok (Secure k j d)) ≡ some (opened (key_at σ.keys k) (get_or σ.tables.devices d no_device).extended v b).right
 unfolding tag_at
 tag-at σ v b k j d e = rw e
 
 near-settle : (σ τ : Store) (v : View) (n : ℕ) (b b' : List ℕ) (u : Judged)
     → σ.counters ≡ τ.counters → v.size ≡ length b → v.size ≡ length b'
-    → ((k j d : ℕ) → u ≡ Secure k j d → d < n)
+    → ((k j d : ℕ) → u ≡ Ok (Secure k j d) → d < n)
     → ((x y : Bool) → tag_at σ v b u ≡ some x → tag_at τ v b' u ≡ some y → x ≡ y)
     → Near v n (settle σ v b u) (settle τ v b' u)
 unfolding settle
-near-settle σ τ v n b b' (Refused r) c l l' h e = refusing r
-near-settle σ τ v n b b' Plain c l l' h e = accepting 0 0 _ _ keep (private-long v b l) (private-long v b' l') tt
-near-settle σ τ v n b b' (Secure k j d) c l l' h e =
+near-settle σ τ v n b b' (Err r) c l l' h e = refusing r
+near-settle σ τ v n b b' (Ok Plain) c l l' h e = accepting 0 0 _ _ keep (private-long v b l) (private-long v b' l') tt
+near-settle σ τ v n b b' (Ok (Secure k j d)) c l l' h e =
     rw c
     (near-admit v n (timely (stored τ.counters j d) (counter_of v.aux)) _ _ _ _ _
     (λ t. e _ _ (tag-at σ v b k j d (rw c t)) (tag-at τ v b' k j d t))
@@ -250,7 +251,7 @@ module _ (m : ℕ) (s t f g o p : List ℕ) (st : Standing m s t o p) (a : Alike
     same-judged : judged (store_of s).tables f ≡ judged (store_of t).tables g
     same-judged = judged-same s t f g (alike-tables s t rule st.sites) a.lengths a.checks same_view
 
-    named : (k j d : ℕ) → judged (store_of s).tables f ≡ Secure k j d → d < count_of s devices
+    named : (k j d : ℕ) → judged (store_of s).tables f ≡ Ok (Secure k j d) → d < count_of s devices
     unfolding store_of
     named k j d e =
         let w = (secure-fits (store_of s).tables f k j d e).1 in
@@ -328,9 +329,9 @@ module _ (s o : List ℕ) (v : View) (l d : ℕ) (r : Raise) where
 shown-settle : (σ : Store) (v : View) (s o b : List ℕ) (u : Judged) (x : Bool) → tag_at σ v b u ≡ some x
     → (write s o (settle σ v b u)).answer.status ≡ pick x 0 15
 unfolding tag_at settle
-shown-settle σ v s o b (Refused r) x e = absurd (let z : ◌≡◌ {A = ℕ} 0 1 = cc in omega arith)
-shown-settle σ v s o b Plain x e = absurd (let z : ◌≡◌ {A = ℕ} 0 1 = cc in omega arith)
-shown-settle σ v s o b (Secure k j d) x e = shown-admit s o v _ (suc d) _ (timely (stored σ.counters j d) (counter_of v.aux)) _ x e
+shown-settle σ v s o b (Err r) x e = absurd (let z : ◌≡◌ {A = ℕ} 0 1 = cc in omega arith)
+shown-settle σ v s o b (Ok Plain) x e = absurd (let z : ◌≡◌ {A = ℕ} 0 1 = cc in omega arith)
+shown-settle σ v s o b (Ok (Secure k j d)) x e = shown-admit s o v _ (suc d) _ (timely (stored σ.counters j d) (counter_of v.aux)) _ x e
 
 pub tag-shown : (s f o : List ℕ) (x : Bool) → tag_seen s f o ≡ some x → (received s f o).answer.status ≡ pick x 0 15
 unfolding tag_seen received received_valid verdict

@@ -5,8 +5,7 @@ use mathlib.Core.List.{List, [], ◌∷◌}
 use lib.ListN.{length}
 use Rattle.meaning.specs.Frame.{View, view, cuts_of}
 use Rattle.meaning.specs.Fcs.{inner}
-use Rattle.meaning.specs.Receive.{received}
-use Rattle.meaning.specs.declared.Received.{Received}
+use Rattle.meaning.specs.Receive.{Received, received}
 use Rattle.demands.specs.Secrecy.{AlikeSites, span, outside, AlikeFrames, Paired, Agreed}
 use Rattle.demands.proofs.Alike.{alike-back}
 use Rattle.demands.proofs.Secrecy.{Standing, same_view, one}

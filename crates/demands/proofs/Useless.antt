@@ -1,5 +1,6 @@
 -- No useless receiver meets demand 2: each is told from `received` by a frame whose outcome is computed, and an accepted frame's private length
 -- and counter are its own, by all ways to an acceptance. Assumes nothing.
+use Rattle.std.specs.Prelude.{Ok, Err}
 use mathlib.Core.Path.{◌≡◌, refl, sym, ap, ◌∙◌}
 use mathlib.Core.Logic.{◌≢◌}
 use Prim.Native.Nat.{ℕ, suc}
@@ -15,6 +16,8 @@ use Rattle.meaning.specs.Ccm.{Opened}
 use Rattle.meaning.specs.Records.{Store}
 use Rattle.meaning.specs.Site.{site_rule, store_of}
 use Rattle.meaning.specs.Receive.{
+  Received,
+  Judged,
   judged,
   refusal,
   report,
@@ -37,9 +40,7 @@ use Rattle.meaning.specs.Receive.{
 }
 use Rattle.meaning.specs.declared.Refusal.TheVariants.{Room, Site}
 use Rattle.meaning.specs.declared.Refusal.{Refusal}
-use Rattle.meaning.specs.declared.Received.{Received}
-use Rattle.meaning.specs.declared.Judged.{Judged}
-use Rattle.meaning.specs.declared.Judged.TheVariants.{Refused, Plain, Secure}
+use Rattle.meaning.specs.declared.Passed.TheVariants.{Plain, Secure}
 use Rattle.demands.specs.Useless.{Receiver, Promised, RefusesAll, OneSuccess, WritesNothing, Repeats, TrueLength, TrueCounter}
 use Rattle.demands.proofs.Refusals.{listed}
 use Rattle.demands.proofs.Computing.{read, computed, received-by}
@@ -121,9 +122,9 @@ own-admit v false w l j d = tt
 
 own-settle : (σ : Store) (v : View) (b : List ℕ) (u : Judged) → Own v (settle σ v b u)
 unfolding settle report
-own-settle σ v b (Refused r) = tt
-own-settle σ v b Plain = (refl, refl)
-own-settle σ v b (Secure k j d) = own-admit v _ _ _ j d
+own-settle σ v b (Err r) = tt
+own-settle σ v b (Ok Plain) = (refl, refl)
+own-settle σ v b (Ok (Secure k j d)) = own-admit v _ _ _ j d
 
 own-verdict : (σ : Store) (room : ℕ) (f : List ℕ) → Own (view (inner f)) (verdict σ room f)
 unfolding verdict

@@ -1,4 +1,5 @@
 -- The verdict on a built frame that is admitted: its report, its private payload, its counter. Unsealing opens what was sealed. Assumes nothing.
+use Rattle.std.specs.Prelude.{Ok}
 use mathlib.Core.Path.{◌≡◌, refl, sym, ap, ◌∙◌}
 use mathlib.Core.Logic.{◌≢◌}
 use Prim.Native.Nat.{ℕ, suc, ◌^◌, ◌≤◌, ◌<◌}
@@ -10,10 +11,9 @@ use Rattle.meaning.specs.Frame.{level_of, counter_of, View}
 use Rattle.meaning.specs.Records.{extended_address, Tables, Store, key_at, no_device}
 use Rattle.meaning.specs.Cipher.{cipher}
 use Rattle.meaning.specs.Ccm.{nonce_of, Sealed}
-use Rattle.meaning.specs.Receive.{report, stored, timely, accept, opened, tagged, admit, settle, verdict}
+use Rattle.meaning.specs.Receive.{Judged, report, stored, timely, accept, opened, tagged, admit, settle, verdict}
 use Rattle.meaning.specs.Build.{header_by, head_octets, aux_octets, with_fcs, sealing}
-use Rattle.meaning.specs.declared.Judged.{Judged}
-use Rattle.meaning.specs.declared.Judged.TheVariants.{Plain, Secure}
+use Rattle.meaning.specs.declared.Passed.TheVariants.{Plain, Secure}
 use Rattle.meaning.specs.declared.Request.{Request}
 use Rattle.meaning.proofs.Ccm.{opens-again}
 use Rattle.meaning.proofs.Ways.{Comes, to-plain, on-check, on-split, weaken, came-plain, came-secure, security-known}
@@ -84,11 +84,11 @@ module _ (σ : Store) (q : Request) (o p f : List ℕ) (r : Ranged q) (ot : Octe
       (opens-again (cipher (key_sent σ q)) (nonce_of (extended_address σ.tables.settings) σ.own q.level) q.level front p)
 
   -- ---- the report
-  plain-report : q.level ≡ 0 → report v 0 0 ≡ report_of σ q o p Plain
+  plain-report : q.level ≡ 0 → report v 0 0 ≡ report_of σ q o p (Ok Plain)
   unfolding report report_of device_of F.shown
   plain-report e = rw (F.private-is σ q o p r ot a m.fits, e)
 
-  secure-report : (k j d : ℕ) → q.level ≢ 0 → report v (level_of x) (suc d) ≡ report_of σ q o p (Secure k j d)
+  secure-report : (k j d : ℕ) → q.level ≢ 0 → report v (level_of x) (suc d) ≡ report_of σ q o p (Ok (Secure k j d))
   unfolding report report_of device_of F.shown
   secure-report k j d n =
       rw (F.private-is σ q o p r ot a m.fits, level-is, ne_eqb q.level 0 n, mode-read q σ.own r.keysource a.level a.keymode n)

@@ -1,5 +1,7 @@
 -- The round trip's premises can be met with security: the site of a file with one device, its own, that
 -- sends itself a frame at level 6. Each by one computation on the file's store. Assumes nothing.
+use Rattle.std.specs.Prelude.{Ok}
+use Rattle.meaning.specs.Receive.{Judged}
 use mathlib.Core.Path.{◌≡◌, refl, sym, subst, ◌∙◌}
 use Prim.Native.Nat.{ℕ, suc, ◌≤◌, ◌<◌}
 use native.Mathlib.Decide.{dec_le}
@@ -13,8 +15,7 @@ use Rattle.meaning.specs.File.{file_store, file_rule}
 use Rattle.meaning.specs.Site.{settings_of, tables_of, store_of}
 use Rattle.meaning.specs.Loading.{site_of}
 use Rattle.meaning.specs.Build.{built, built_valid, laid, made, on_counter, on_lookup, secured, request_right, fields_right, mode_right, source_right, payloads_right, header_by, fitted, own_address, compresses, frame_len, head_octets, first_octet, second_octet, placed_octets, address_octets, source_octets, aux_octets, key_id_octets}
-use Rattle.meaning.specs.declared.Judged.{Judged}
-use Rattle.meaning.specs.declared.Judged.TheVariants.{Secure}
+use Rattle.meaning.specs.declared.Passed.TheVariants.{Secure}
 use Rattle.meaning.specs.declared.Request.{Request}
 use Rattle.meaning.proofs.Computed.{every, at}
 use Rattle.meaning.proofs.Bridges.{site-of-rule, site-of-store}
@@ -86,9 +87,9 @@ unfolding store_of tables_of
 admitted-by s σ q o g e h =
     subst (λ (τ : Store). admission τ.tables (header_by τ.tables.settings q) (aux_octets q τ.own) o ≡ g) (sym e) h
 
-admitted : admission (tables_of site) (header_by (settings_of site) ask) (aux_octets ask (store_of site).own) [] ≡ Secure 0 0 0
+admitted : admission (tables_of site) (header_by (settings_of site) ask) (aux_octets ask (store_of site).own) [] ≡ Ok (Secure 0 0 0)
 unfolding read computed admission header_by fitted own_address compresses aux_octets key_id_octets
-admitted = admitted-by site (file_store file) ask [] (Secure 0 0 0) (site-of-store file rule) refl
+admitted = admitted-by site (file_store file) ask [] (Ok (Secure 0 0 0)) (site-of-store file rule) refl
 
 same-store : Same (file_store file) (file_store file) ask 0 0 0
 unfolding read computed fitted key_in key_sent
@@ -105,7 +106,7 @@ meets =
       success = success;
     }
 
-pub taken : Taken site ask [] site room (Secure 0 0 0)
+pub taken : Taken site ask [] site room (Ok (Secure 0 0 0))
 taken =
     record {
       site = site-of-rule file ∙ rule;
@@ -115,5 +116,5 @@ taken =
     }
 
 -- so the frame comes back
-pub returned : Comes-back site ask [] text room site room (Secure 0 0 0)
-returned = comes-back site ask [] text room meets site room (Secure 0 0 0) taken
+pub returned : Comes-back site ask [] text room site room (Ok (Secure 0 0 0))
+returned = comes-back site ask [] text room meets site room (Ok (Secure 0 0 0)) taken

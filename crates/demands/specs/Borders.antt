@@ -1,5 +1,5 @@
 -- 'Borders to hold', the rows marked P, as one table: what the meaning gives, and what document 01 wants. Assumes nothing: these are definitions.
-use Rattle.std.specs.Prelude.{ℕ, ◌≤◌, ◌≡◌, Bool, true, false, ◌&&◌, List, [], ◌∷◌, eqb}
+use Rattle.std.specs.Prelude.{ℕ, ◌≤◌, ◌≡◌, Bool, true, false, ◌&&◌, List, [], ◌∷◌}
 use Rattle.meaning.specs.Octets.{pick, same}
 use Rattle.meaning.specs.Fcs.{fcs}
 use Rattle.meaning.specs.Frame.{at_least, level_of, mode_of, aux_m, head_m, header_of}
@@ -7,7 +7,6 @@ use Rattle.meaning.specs.Field.{product}
 use Rattle.meaning.specs.Sbox.{sbox}
 use Rattle.meaning.specs.Ccm.{flags_of}
 use Rattle.meaning.specs.Receive.{timely, raise, raised}
-use Rattle.meaning.specs.declared.Header.{Header}
 
 -- a row: what is given, and what is wanted
 pub record Row : Type 0 where

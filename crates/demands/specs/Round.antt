@@ -5,21 +5,17 @@
 -- Well-formed      no check before filter and policies strikes it
 -- Taken            site r, with output out', admits it; if secured, by the sender's key, address and counter
 -- Comes-back       the one outcome of receiving it
-use Rattle.std.specs.Prelude.{ℕ, suc, ◌+◌, ◌≤◌, ◌<◌, ◌^◌, ◌≡◌, true, List, [], length, get_or, take, eqb}
+use Rattle.std.specs.Prelude.{ℕ, suc, ◌+◌, ◌≤◌, ◌<◌, ◌^◌, ◌≡◌, true, List, [], length, get_or, take, eqb, Option, Some, None, Ok, Err}
 use Rattle.meaning.specs.Octets.{pick, part, beside}
 use Rattle.meaning.specs.Records.{extended_address, Tables, Store, key_at, no_device}
 use Rattle.meaning.specs.Site.{site_rule, settings_of, tables_of, store_of}
 use Rattle.meaning.specs.Filter.{cause}
 use Rattle.meaning.specs.Steps.{peer_of, key_row, key_of}
-use Rattle.meaning.specs.Receive.{check, split, on_security, judged, Raise, keep, raise, stored, raised_in, outcome, received}
+use Rattle.meaning.specs.Receive.{Received, Judged, check, split, on_security, judged, Raise, keep, raise, stored, raised_in, outcome, received}
 use Rattle.meaning.specs.Build.{fitted, header_by, head_octets, aux_octets, built}
-use Rattle.meaning.specs.declared.Found.{Found}
-use Rattle.meaning.specs.declared.Found.TheVariants.{At, Nothing}
 use Rattle.meaning.specs.declared.Refusal.TheVariants.{Filtered}
 use Rattle.meaning.specs.declared.Header.{Header}
-use Rattle.meaning.specs.declared.Judged.{Judged}
-use Rattle.meaning.specs.declared.Judged.TheVariants.{Refused, Plain, Secure}
-use Rattle.meaning.specs.declared.Received.{Received}
+use Rattle.meaning.specs.declared.Passed.TheVariants.{Plain, Secure}
 use Rattle.meaning.specs.declared.Request.{Request}
 
 -- every octet is below 256: what u8 means
@@ -42,9 +38,9 @@ unfoldable pub frame_sent : List ℕ → Request → List ℕ → List ℕ → L
 frame_sent s q o p out = take (built s q o p out).answer.len (built s q o p out).out
 
 -- the key octets of a lookup record
-unfoldable pub key_in : Store → Found → List ℕ
-key_in σ Nothing = []
-key_in σ (At i) = key_at σ.keys (key_of σ.tables.lookups i)
+unfoldable pub key_in : Store → Option ℕ → List ℕ
+key_in σ None = []
+key_in σ (Some i) = key_at σ.keys (key_of σ.tables.lookups i)
 
 -- the key octets that the sender selects
 unfoldable pub key_sent : Store → Request → List ℕ
@@ -57,7 +53,7 @@ key_sent σ q =
 -- what filter and policies say; an acknowledgment passes with the filter
 unfoldable pub admission : Tables → Header → List ℕ → List ℕ → Judged
 admission t h x o =
-    check (eqb (cause t.settings h) 0) Filtered (split (eqb h.kind 2) Plain (on_security t h x o))
+    check (eqb (cause t.settings h) 0) Filtered (split (eqb h.kind 2) (Ok Plain) (on_security t h x o))
 
 -- neither 3, 4, 5 nor 7 is ever the answer to a built frame: filter and policies decide
 pub record Well-formed (s : List ℕ) (q : Request) (o p out : List ℕ) : Type 0 where
@@ -73,8 +69,8 @@ pub record Same (σ τ : Store) (q : Request) (k j d : ℕ) : Type 0 where
 
 -- admitted: without security, or by the sender's key and device
 pub data Agreed (σ τ : Store) (q : Request) : Judged → Type 0 where
-  plainly : Agreed σ τ q Plain
-  securely : {k j d : ℕ} → Same σ τ q k j d → Agreed σ τ q (Secure k j d)
+  plainly : Agreed σ τ q (Ok Plain)
+  securely : {k j d : ℕ} → Same σ τ q k j d → Agreed σ τ q (Ok (Secure k j d))
 
 pub record Taken (s : List ℕ) (q : Request) (o r out' : List ℕ) (g : Judged) : Type 0 where
   pub site : site_rule r ≡ true
@@ -85,15 +81,15 @@ pub record Taken (s : List ℕ) (q : Request) (o r out' : List ℕ) (g : Judged)
 -- ---- what comes back
 -- devices count from 1
 unfoldable pub device_of : Judged → ℕ
-device_of (Refused r) = 0
-device_of Plain = 0
-device_of (Secure k j d) = suc d
+device_of (Err r) = 0
+device_of (Ok Plain) = 0
+device_of (Ok (Secure k j d)) = suc d
 
 -- the device's counter becomes the frame's plus 1
 unfoldable pub raise_of : ℕ → Judged → Raise
-raise_of c (Refused r) = keep
-raise_of c Plain = keep
-raise_of c (Secure k j d) = raise j d c
+raise_of c (Err r) = keep
+raise_of c (Ok Plain) = keep
+raise_of c (Ok (Secure k j d)) = raise j d c
 
 unfoldable pub report_of : Store → Request → List ℕ → List ℕ → Judged → Received
 report_of σ q o p g =

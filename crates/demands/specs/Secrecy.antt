@@ -7,16 +7,15 @@
 -- Paired            two lists of frames that pair up, each pair where the receivers then stand
 -- Agreed            one pair of outcomes that tell nothing apart
 -- Agree             each pair of outcomes of the two lists
-use Rattle.std.specs.Prelude.{ℕ, ◌+◌, ◌*◌, ◌-◌, max, ◌≡◌, Bool, ◌&&◌, List, [], ◌∷◌, length, get_or, take, drop, leb, eqb}
+use Rattle.std.specs.Prelude.{ℕ, ◌+◌, ◌*◌, ◌-◌, max, ◌≡◌, Bool, ◌&&◌, List, [], ◌∷◌, length, get_or, take, drop, leb, eqb, Ok, Err}
 use Rattle.std.proofs.Math.Option.{Option, none, some}
 use Rattle.meaning.specs.Octets.{pick, part}
 use Rattle.meaning.specs.Frame.{counter_of, View, view, cuts_of, open_end}
 use Rattle.meaning.specs.Fcs.{inner, fcs_right}
 use Rattle.meaning.specs.Records.{keys, width_of, limit_of, Store, key_at, no_device}
 use Rattle.meaning.specs.Site.{place_of, site_rule, store_of}
-use Rattle.meaning.specs.Receive.{judged, stored, timely, opened, Outcome, received}
-use Rattle.meaning.specs.declared.Judged.{Judged}
-use Rattle.meaning.specs.declared.Judged.TheVariants.{Refused, Plain, Secure}
+use Rattle.meaning.specs.Receive.{Judged, judged, stored, timely, opened, Outcome, received}
+use Rattle.meaning.specs.declared.Passed.TheVariants.{Plain, Secure}
 
 -- ---- sites
 -- a site that breaks a rule has no key octets
@@ -45,9 +44,9 @@ outside s f o = span (received s f o).answer.status f
 
 -- a frame reaches its tag where site and room are right, a key and a device are found and the counter is timely
 unfoldable pub tag_at : Store → View → List ℕ → Judged → Option Bool
-tag_at σ v b (Refused r) = none
-tag_at σ v b Plain = none
-tag_at σ v b (Secure k j d) =
+tag_at σ v b (Err r) = none
+tag_at σ v b (Ok Plain) = none
+tag_at σ v b (Ok (Secure k j d)) =
     pick (timely (stored σ.counters j d) (counter_of v.aux))
     (some (opened (key_at σ.keys k) (get_or σ.tables.devices d no_device).extended v b).right) none
 

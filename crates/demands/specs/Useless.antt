@@ -5,8 +5,7 @@
 use Rattle.std.specs.Prelude.{ℕ, suc, ◌≡◌, ◌≢◌, List}
 use Rattle.meaning.specs.Frame.{counter_of, view, private_len}
 use Rattle.meaning.specs.Fcs.{inner}
-use Rattle.meaning.specs.Receive.{raise, raised_in, Outcome, received}
-use Rattle.meaning.specs.declared.Received.{Received}
+use Rattle.meaning.specs.Receive.{Received, raise, raised_in, Outcome, received}
 
 abbrev pub Receiver : Type 0
 Receiver = List ℕ → List ℕ → List ℕ → Outcome

@@ -1,51 +1,59 @@
 -- The laws of a search in steps: of the handle search, and that the trials lead to `handle_row_by`. Assumes nothing.
+use Rattle.std.specs.Prelude.{Option, Some, None, MatchOption, IsSomeAnd}
+use Rattle.std.specs.declared.ops.Range.{Range}
+use Rattle.std.specs.Fn.{CalledAt}
+use Rattle.std.specs.Iterator.{FindsItem}
+use Rattle.std.specs.List.{find, range_with_len}
+use Rattle.std.specs.Option.{option_map}
+use Rattle.std.proofs.lemmas.Iterator.{YieldsList-from_range}
+use Rattle.std.proofs.lemmas.Iterator.Search.{find_from_yields_List}
+use Rattle.std.proofs.lemmas.Iterator.Adapters.{option_map_id}
+use Rattle.std.proofs.iter.Yields.{nat_range_steps}
+use denote.Ref.{Bor}
+use denote.Param.Members.{Mut}
+use native.Mathlib.Numerals.{add-one}
 use mathlib.Core.Path.{◌≡◌, refl, ap, sym, ◌∙◌}
-use mathlib.Core.Bool.{Bool, true, false, ◌&&◌}
+use mathlib.Core.Bool.{Bool, true, false, ◌&&◌, cond}
 use mathlib.Core.List.{List}
-use Prim.Native.Nat.{ℕ, zero, suc, ◌+◌, ◌-◌, ◌*◌, ◌/◌, ◌≤◌, ◌<◌}
+use Prim.Native.Nat.{ℕ, zero, suc, ◌+◌, ◌-◌, ◌≤◌, ◌<◌}
 use native.Mathlib.Omega.{arith}
-use lib.ListN.{length, get_or}
+use lib.ListN.{get_or}
 use Rattle.meaning.specs.Octets.{pick, scan}
-use Rattle.meaning.specs.Records.{handle_at, records, no_device}
+use Rattle.meaning.specs.Records.{records, no_device}
 use Rattle.meaning.specs.Steps.{is_peer}
 use Rattle.search.specs.Rows.{handle_row_by}
 use Rattle.meaning.specs.declared.Device.{Device}
-use Rattle.meaning.specs.declared.Found.{Found}
-use Rattle.meaning.specs.declared.Found.TheVariants.{At, Nothing}
 use Rattle.meaning.proofs.Scan.{step, pick-all}
-use Rattle.meaning.proofs.Tests.{and_left, eq-by, ne-by}
-use Rattle.devices.specs.Devices.{is_handle, device_of, trial, over, handle_from, tried_of, answer_of}
+use Rattle.meaning.proofs.Tests.{and_left}
+use Rattle.devices.specs.Devices.{is_handle, device_of, trial, handle_from}
 use Rattle.devices.specs.declared.Sought.{Sought}
 use Rattle.devices.specs.declared.Trial.{Trial}
 
--- the loop of `handle_from`: the handles before i are not it
-pub record Further (hs : List ℕ) (key from m i : ℕ) : Type 0 where
-  pub same : handle_from hs key from ≡ scan (is_handle hs key) (trial hs) over (m - i) i
+-- ---- the search of `handle_from`
+-- the first of n numbers from i on that passes a test, with what it gives, as a chain of the library says it and as the definitions do
+find-scan : (p : ℕ → Bool) (f : ℕ → Trial) (n i : ℕ) → option_map f (find p (range_with_len i n)) ≡ scan p (λ k. Some (f k)) None n i
+find-scan p f zero i = refl
+find-scan p f (suc n) i = here (p i) (find-scan p f n (i + 1))
+  where
+    here : (t : Bool) → option_map f (find p (range_with_len (i + 1) n)) ≡ scan p (λ k. Some (f k)) None n (i + 1)
+        → option_map f (cond t (Some i) (find p (range_with_len (i + 1) n))) ≡ pick t (Some (f i)) (scan p (λ k. Some (f k)) None n (suc i))
+    here true e = refl
+    here false e = e ∙ ap (λ (j : ℕ). scan p (λ k. Some (f k)) None n j) (add-one i)
 
-module _ {hs : List ℕ} {key from : ℕ} where
-  pub none-yet : Further hs key from (length hs / 2) from
-  unfolding handle_from
-  none-yet = record { same = refl }
+-- `find` over the numbers from `from` on below m, by a closure that gives p of each and changes nothing, and f of what it finds
+pub found-from : {F : Type 0} {g : Mut F (Bor ℕ × Unit {0}) Bool} (p : ℕ → Bool) (f : ℕ → Trial) (from m : ℕ) (u : Range ℕ) (w : F) (r : Option ℕ)
+    → FindsItem nat_range_steps g (record { start = from; end = m }) w r u → ((x : ℕ) (b : Bool) (q : F) → CalledAt g w x b q → (q ≡ w) × (b ≡ p x))
+    → option_map f r ≡ scan p (λ k. Some (f k)) None (m - from) from
+found-from p f from m u w r ran told =
+    ap (option_map f) (sym (option_map_id r) ∙ find_from_yields_List p u w r ran (YieldsList-from_range from m (m - from) refl refl) told)
+    ∙ find-scan p f (m - from) from
 
-module _ {hs : List ℕ} {key from m i : ℕ} where
-  pub one-more : {u : ℕ} → Further hs key from m i → i < m → u ≡ get_or hs (2 * i) 0 → (u ≡ key → ⊥) → Further hs key from m (i + 1)
-  one-more {u} f l d e = record { same = f.same ∙ step (is_handle hs key) (trial hs) over m i l ∙ rw (ne-by (get_or hs (2 * i) 0) key u d e) }
-
-  pub this-one : {u : ℕ} (x : ℕ) → Further hs key from m i → i < m → u ≡ get_or hs (2 * i) 0 → u ≡ key → x ≡ (handle_at hs i).device
-      → ◌≡◌ {A = Trial} (record { more = true; found = false; at = i; device = x }) (handle_from hs key from)
-  unfolding handle_at
-  this-one {u} x f l d e x-is =
-      ap (λ (y : ℕ). record { more = true; found = false; at = i; device = y }) x-is
-      ∙ sym (f.same ∙ step (is_handle hs key) (trial hs) over m i l ∙ rw (eq-by (get_or hs (2 * i) 0) key u d e))
-
-  pub no-one : Further hs key from m i → m ≤ i → ◌≡◌ {A = Trial} (record { more = false; found = false; at = 0; device = 0 }) (handle_from hs key from)
-  no-one f l = let z : m - i ≡ 0 = omega arith in sym (f.same ∙ rw z)
-
-no : ◌≡◌ {A = Bool} true false → ⊥
-no z = let w : ◌≡◌ {A = ℕ} 0 1 = cc in omega arith
-
-both-of : (a b : Bool) → a ≡ true → (a && b) ≡ b
-both-of a b e = rw e
+-- what `map` makes of it, by a closure that gives f
+pub mapped : (f : ℕ → Trial) (o : Option ℕ) (r : Option Trial) (Q : ℕ → Trial → Type 0) → MatchOption o (r ≡ None) (λ x. IsSomeAnd r (Q x))
+    → ((x : ℕ) (y : Trial) → Q x y → y ≡ f x) → r ≡ option_map f o
+mapped f None r Q h q = h
+mapped f (Some x) None Q h q = absurd h
+mapped f (Some x) (Some y) Q h q = ap Some (q x y h)
 
 -- ---- the trials lead to `handle_row_by`
 module _ (ds : List Device) (hs : List ℕ) (s : Sought) where
@@ -61,59 +69,65 @@ module _ (ds : List Device) (hs : List ℕ) (s : Sought) where
   abbrev n : ℕ
   n = records 2 hs
 
-  abbrev pub right : Found
+  abbrev pub right : Option ℕ
   right = handle_row_by hs ds s.key s.peer
 
-  -- what is known of a trial: the handle at `at` is one of the key's, and those before it were not it; or the search is over, and the answer is right
-  pub data Sound : Trial → Type 0 where
-    trying : (k : ℕ) → k < n → Handle k ≡ true → right ≡ scan Right At Nothing (n - k) k → Sound (trial hs k)
-    ended : {t : Trial} → t.more ≡ false → answer_of t ≡ right → Sound t
+  -- the handle at `at` is one of the key's, and those before it were not it
+  pub record Trying (t : Trial) : Type 0 where
+    pub below : t.at < n
+    pub ours : Handle t.at ≡ true
+    pub named : t.device ≡ device_of hs t.at
+    pub same : right ≡ scan Right Some None (n - t.at) t.at
+
+  -- what is known of the next trial, or of there being none
+  abbrev pub Sound : Option Trial → Type 0
+  Sound None = None ≡ right
+  Sound (Some t) = Trying t
+
+  -- how much is left to try
+  abbrev pub left : Option Trial → ℕ
+  left None = 0
+  left (Some t) = suc (n - t.at)
 
   -- the search from i on, in trials, where those before i were not it
-  from-sound : (j i : ℕ) → i + j ≡ n → right ≡ scan Right At Nothing j i → Sound (scan Handle (trial hs) over j i)
-  from-sound zero i e same = ended refl (sym same)
+  from-sound : (j i : ℕ) → i + j ≡ n → right ≡ scan Right Some None j i → Sound (scan Handle (λ k. Some (trial hs k)) None j i)
+  from-sound zero i e same = sym same
   from-sound (suc j) i e same =
-      pick-all Sound (Handle i) (trial hs i) (scan Handle (trial hs) over j (suc i))
-      (λ h. let m-is : suc j ≡ n - i = omega arith in trying i (omega arith) h (same ∙ ap (λ (m : ℕ). scan Right At Nothing m i) m-is))
+      pick-all Sound (Handle i) (Some (trial hs i)) (scan Handle (λ k. Some (trial hs k)) None j (suc i))
+      (λ h.
+      let m-is : suc j ≡ n - i = omega arith in
+      record { below = omega arith; ours = h; named = refl; same = same ∙ ap (λ (m : ℕ). scan Right Some None m i) m-is })
       (λ h. from-sound j (suc i) (omega arith) (same ∙ rw (and_left (Handle i) (Peer i) h)))
 
   pub start-sound : Sound (handle_from hs s.key 0)
   unfolding handle_from handle_row_by
-  start-sound = let m-is : n ≡ n - 0 = omega arith in from-sound (n - 0) 0 (omega arith) (ap (λ (m : ℕ). scan Right At Nothing m 0) m-is)
+  start-sound = let m-is : n ≡ n - 0 = omega arith in from-sound (n - 0) 0 (omega arith) (ap (λ (m : ℕ). scan Right Some None m 0) m-is)
 
-  -- how much is left to try: 0 where the search is over
-  abbrev pub left : Trial → ℕ
-  left t = pick t.more (suc (n - t.at)) 0
-
-  from-left : (j i : ℕ) → left (scan Handle (trial hs) over j i) ≤ suc (n - i)
+  from-left : (j i : ℕ) → left (scan Handle (λ k. Some (trial hs k)) None j i) ≤ suc (n - i)
   from-left zero i = omega arith
   from-left (suc j) i =
-      pick-all (λ (t : Trial). left t ≤ suc (n - i)) (Handle i) (trial hs i) (scan Handle (trial hs) over j (suc i)) (λ h. omega arith)
-      (λ h. let r : left (scan Handle (trial hs) over j (suc i)) ≤ suc (n - suc i) = from-left j (suc i) in omega arith)
+      pick-all (λ (o : Option Trial). left o ≤ suc (n - i)) (Handle i) (Some (trial hs i)) (scan Handle (λ k. Some (trial hs k)) None j (suc i)) (λ h. omega arith)
+      (λ h. let r : left (scan Handle (λ k. Some (trial hs k)) None j (suc i)) ≤ suc (n - suc i) = from-left j (suc i) in omega arith)
 
-  -- what a trial that is to be tried asks, where the handles' devices are all there
-  pub in-range : ((j : ℕ) → j < n → device_of hs j < length ds) → {t : Trial} → Sound t → t.more ≡ true → (t.device < length ds) × (t.at < length hs)
-  in-range ok (trying k l h same) e = (ok k l, omega arith)
-  in-range ok (ended f a) e = absurd (no (sym e ∙ f))
+  module _ {o : Option Trial} {t : Trial} (known : Sound o) (is : o ≡ Some t) where
+    w : Trying t
+    w = rw is at known
 
-  -- a trial is tried: the next is sound, and less is left
-  pub next-sound : {t : Trial} → Sound t → t.more ≡ true → Sound (tried_of hs s t (get_or ds t.device no_device))
-  unfolding tried_of handle_from
-  next-sound (trying k l h same) e =
-      pick-all Sound (Peer k) (record { more = false; found = true; at = k; device = device_of hs k }) (scan Handle (trial hs) over (n - (k + 1)) (k + 1))
-      (λ y. ended refl (sym (same ∙ step Right At Nothing n k l ∙ rw (both-of (Handle k) (Peer k) h ∙ y))))
-      (λ y. from-sound (n - (k + 1)) (k + 1) (omega arith) (same ∙ step Right At Nothing n k l ∙ rw (both-of (Handle k) (Peer k) h ∙ y)))
-  next-sound (ended f a) e = absurd (no (sym e ∙ f))
+    -- the step of the search that this trial takes, by whether its device is the peer
+    here : right ≡ pick (Peer t.at) (Some t.at) (scan Right Some None (n - (t.at + 1)) (t.at + 1))
+    here = w.same ∙ step Right Some None n t.at w.below ∙ rw w.ours
 
-  pub next-less : {t : Trial} → Sound t → t.more ≡ true → (d : Device) → left (tried_of hs s t d) < left t
-  unfolding tried_of handle_from
-  next-less (trying k l h same) e d =
-      pick-all (λ (u : Trial). left u < suc (n - k)) (is_peer s.peer d) (record { more = false; found = true; at = k; device = device_of hs k }) (scan Handle (trial hs) over (n - (k + 1)) (k + 1))
-      (λ y. omega arith)
-      (λ y. let r : left (scan Handle (trial hs) over (n - (k + 1)) (k + 1)) ≤ suc (n - (k + 1)) = from-left (n - (k + 1)) (k + 1) in omega arith)
-  next-less (ended f a) e d = absurd (no (sym e ∙ f))
+    pub next-sound : is_peer s.peer (get_or ds t.device no_device) ≡ false → Sound (handle_from hs s.key (t.at + 1))
+    unfolding handle_from
+    next-sound y =
+        let z : Peer t.at ≡ false = rw w.named at y in
+        let b : t.at < n = w.below in
+        from-sound (n - (t.at + 1)) (t.at + 1) (omega arith) (here ∙ rw z)
 
-  -- the search is over
-  pub at-end : {t : Trial} → Sound t → t.more ≡ false → answer_of t ≡ right
-  at-end (trying k l h same) e = absurd (no e)
-  at-end (ended f a) e = a
+    pub next-less : left (handle_from hs s.key (t.at + 1)) < left o
+    unfolding handle_from
+    next-less =
+        rw is (
+        let b : t.at < n = w.below in
+        let r : left (handle_from hs s.key (t.at + 1)) ≤ suc (n - (t.at + 1)) = from-left (n - (t.at + 1)) (t.at + 1) in
+        omega arith)

@@ -57,9 +57,6 @@ pub record Decoding (s : List ℕ) (n i : ℕ) (out : List Device) : Type 0 wher
   pub long : length out ≡ 64
 
 module _ {s : List ℕ} {n : ℕ} where
-  pub none-yet : n ≤ 64 → Decoding s n 0 (tab (record_of s 0) 64)
-  none-yet h = record { within = omega arith; room = h; same = refl; long = refl }
-
   pub one-more : {i : ℕ} {out : List Device} {d : Device} → Decoding s n i out → i < n → d ≡ device_at s i → Decoding s n (i + 1) (set out i d)
   one-more {i} {out} {d} w l e =
       let r : n ≤ 64 = w.room in

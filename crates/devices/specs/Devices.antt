@@ -1,20 +1,15 @@
 -- The search of device records through the handles of a key, in steps. Assumes nothing: these are definitions.
 -- What is right is the meaning's `handle_row`, here over the body of the handles (`handle_row_by`): a handle is two octets, a key's number and a device's.
--- handle_from   the trial of the key's first handle from a number on
--- tried_of      the trial after one that was tried
--- answer_of     the answer where the search is over
+-- handle_from   the trial of the key's first handle from a number on, or none
 -- devices_of    a table's records, with empty ones up to 64
 -- found_at      the search in a whole site
-use Rattle.std.specs.Prelude.{ℕ, ◌+◌, ◌-◌, ◌*◌, Bool, true, false, List, get_or, take, ltb, eqb}
+use Rattle.std.specs.Prelude.{ℕ, ◌+◌, ◌-◌, ◌*◌, Bool, List, get_or, take, ltb, eqb, Option, Some, None}
 use Rattle.meaning.specs.Octets.{pick, scan, tab}
 use Rattle.meaning.specs.Records.{records, device_at, no_device}
 use Rattle.meaning.specs.Site.{site_rule, tables_of}
-use Rattle.meaning.specs.Steps.{is_peer, handle_row}
+use Rattle.meaning.specs.Steps.{handle_row}
 use Rattle.meaning.specs.declared.Address.{Address}
 use Rattle.meaning.specs.declared.Device.{Device}
-use Rattle.meaning.specs.declared.Found.{Found}
-use Rattle.meaning.specs.declared.Found.TheVariants.{At, Nothing}
-use Rattle.devices.specs.declared.Sought.{Sought}
 use Rattle.devices.specs.declared.Trial.{Trial}
 
 -- the handle at k is the key's, and its device
@@ -25,20 +20,10 @@ abbrev pub device_of : List ℕ → ℕ → ℕ
 device_of hs k = get_or hs (2 * k + 1) 0
 
 abbrev pub trial : List ℕ → ℕ → Trial
-trial hs k = record { more = true; found = false; at = k; device = device_of hs k }
+trial hs k = record { at = k; device = device_of hs k }
 
-abbrev pub over : Trial
-over = record { more = false; found = false; at = 0; device = 0 }
-
-unfoldable pub handle_from : List ℕ → ℕ → ℕ → Trial
-handle_from hs key from = scan (is_handle hs key) (trial hs) over (records 2 hs - from) from
-
-unfoldable pub tried_of : List ℕ → Sought → Trial → Device → Trial
-tried_of hs s t d =
-    pick (is_peer s.peer d) (record { more = false; found = true; at = t.at; device = t.device }) (handle_from hs s.key (t.at + 1))
-
-abbrev pub answer_of : Trial → Found
-answer_of t = pick t.found (At t.at) Nothing
+unfoldable pub handle_from : List ℕ → ℕ → ℕ → Option Trial
+handle_from hs key from = scan (is_handle hs key) (λ k. Some (trial hs k)) None (records 2 hs - from) from
 
 -- the record at i, empty where the table has none
 abbrev pub record_of : List ℕ → ℕ → ℕ → Device
@@ -52,5 +37,5 @@ unfoldable pub devices_lent : List ℕ → List Device
 devices_lent s = take (records 17 s) (devices_of s)
 
 -- nothing in a site that breaks a rule
-unfoldable pub found_at : List ℕ → ℕ → Address → Found
-found_at s key p = pick (site_rule s) (handle_row (tables_of s).handles (tables_of s).devices key p) Nothing
+unfoldable pub found_at : List ℕ → ℕ → Address → Option ℕ
+found_at s key p = pick (site_rule s) (handle_row (tables_of s).handles (tables_of s).devices key p) None

@@ -1,14 +1,12 @@
 -- Stores that touch are one store; so a packed answer is stored part by part. Assumes nothing.
-use mathlib.Core.Path.{◌≡◌, refl, ap, sym, ◌∙◌}
-use mathlib.Core.List.{List, [], ◌∷◌, ◌++◌}
-use Prim.Native.Nat.{ℕ, ◌+◌}
-use native.Mathlib.Omega.{arith}
-use lib.ListN.{length}
-use lib.Seq.{sets}
+use Rattle.std.proofs.Common.{◌≡◌, refl, ap, sym, ◌∙◌, List, [], ◌∷◌, ◌++◌, ℕ, ◌+◌, length, replicate, arith}
+use Rattle.std.proofs.lemmas.List.Edits.{sets}
 use Rattle.meaning.specs.Octets.{octs}
+use Rattle.meaning.specs.Status.{number}
+use Rattle.meaning.specs.Receive.{Received, refusal}
+use Rattle.meaning.specs.declared.Refusal.{Refusal}
 use Rattle.meaning.specs.declared.Address.{Address}
 use Rattle.meaning.specs.declared.Header.{Header}
-use Rattle.meaning.specs.declared.Received.{Received}
 use Rattle.meaning.proofs.Numbers.{length-octs}
 use Rattle.meaning.proofs.Stores.{sets-append}
 use Rattle.export.specs.Packed.{address_packed, fields_packed, header_packed, rest_packed, packed}
@@ -46,26 +44,24 @@ length-header : (h : Header) → length (header_packed h) ≡ 29
 unfolding header_packed fields_packed address_packed octs
 length-header h = refl
 
-pub rest-stored : (s t u v w x y z : List ℕ) (r : Received)
-    → t ≡ sets s 30 (r.level ∷ [])
-    → u ≡ sets t 31 (r.keymode ∷ [])
-    → v ≡ sets u 32 (octs 2 r.device)
+pub rest-stored : (s t v w x y z : List ℕ) (r : Received)
+    → t ≡ sets s 30 (r.level ∷ r.keymode ∷ [])
+    → v ≡ sets t 32 (octs 2 r.device)
     → w ≡ sets v 34 (octs 2 r.private)
     → x ≡ sets w 36 (octs 2 r.start)
     → y ≡ sets x 38 (octs 2 r.len)
     → z ≡ sets y 40 (octs 8 0)
     → z ≡ sets s 30 (rest_packed r)
 unfolding rest_packed
-rest-stored s t u v w x y z r a b c d e f g =
+rest-stored s t v w x y z r a c d e f g =
     let e₁ : List ℕ = octs 2 r.len ++ octs 8 0 in
     let e₂ : List ℕ = octs 2 r.start ++ e₁ in
     let e₃ : List ℕ = octs 2 r.private ++ e₂ in
     let e₄ : List ℕ = octs 2 r.device ++ e₃ in
-    touching s t z 30 31 (r.level ∷ []) (r.keymode ∷ e₄) refl a
-    (touching t u z 31 32 (r.keymode ∷ []) e₄ refl b
-    (pair u v z 32 34 r.device e₃ refl c
+    touching s t z 30 32 (r.level ∷ r.keymode ∷ []) e₄ refl a
+    (pair t v z 32 34 r.device e₃ refl c
     (pair v w z 34 36 r.private e₂ refl d
-    (pair w x z 36 38 r.start e₁ refl e (pair x y z 38 40 r.len (octs 8 0) refl f g)))))
+    (pair w x z 36 38 r.start e₁ refl e (pair x y z 38 40 r.len (octs 8 0) refl f g))))
 
 pub answer-stored : (s t u w : List ℕ) (r : Received)
     → t ≡ sets s 0 (r.status ∷ []) → u ≡ sets t 1 (header_packed r.header) → w ≡ sets u 30 (rest_packed r)
@@ -74,3 +70,10 @@ unfolding packed
 answer-stored s t u w r p q e =
     touching s t w 0 1 (r.status ∷ []) (header_packed r.header ++ rest_packed r) refl p
     (touching t u w 1 30 (header_packed r.header) (rest_packed r) (omega (arith, length-header r.header)) q e)
+
+-- a refusal: its number and zeros
+pub refused : (r : Refusal) → number r ∷ replicate 47 0 ≡ packed (refusal r)
+unfolding packed header_packed fields_packed address_packed rest_packed octs refusal
+refused r = refl
+
+pub ruleset stored = (address-stored, header-stored, rest-stored, answer-stored, refused)

@@ -1,21 +1,34 @@
 -- Receiving many frames: what one turn of the loop does. Assumes nothing.
 -- A frame takes at least an octet, so as many turns as there are octets are enough, and one more changes nothing.
-use mathlib.Core.Path.{◌≡◌, refl, sym, ap, ◌∙◌}
-use mathlib.Core.Bool.{true}
-use mathlib.Core.List.{List, [], ◌∷◌}
-use Prim.Native.Nat.{ℕ, zero, suc, ◌+◌, ◌-◌, ◌≤◌, ◌<◌}
-use native.Mathlib.Numerals.{add-one}
-use native.Mathlib.Omega.{arith}
-use lib.ListN.{length, get_or, take, drop, length-drop, drop_of_length-le}
-use lib.Seq.{drop-cons, drop-drop}
-use lib.Dec.{ltb, eqb}
+use Rattle.std.proofs.Common.{◌≡◌, refl, sym, ap, ◌∙◌, Bool, true, false, List, [], ◌∷◌, ℕ, zero, suc, ◌+◌, ◌≤◌, ◌<◌, length, take, drop, ltb, Result, Ok, Err, arith, add-zero, length-drop}
+use Rattle.std.proofs.lemmas.List.{nil_from_length}
+use Rattle.std.specs.Result.{is_ok}
+use mir.Val.{bool_byte}
 use borrow.Author.Tests.{lt-ltb, le-ltb}
 use Rattle.meaning.specs.Octets.{pick}
-use Rattle.meaning.specs.Site.{site_rule}
-use Rattle.meaning.specs.Receive.{Outcome, outcome, received_valid}
-use Rattle.meaning.specs.declared.Received.{Received}
-use Rattle.meaning.proofs.Kept.{kept}
-use Rattle.meaning.proofs.Lengths.{pick-le}
+use Rattle.meaning.specs.Status.{number}
+use Rattle.meaning.specs.Receive.{Outcome, outcome, refusal, answer_of, received_valid}
+use Rattle.meaning.specs.declared.Accepted.{Accepted}
+use Rattle.meaning.specs.declared.Refusal.{Refusal}
+use Rattle.meaning.specs.declared.Refusal.TheVariants.{
+  Site,
+  Room,
+  Length,
+  Fcs,
+  Malformed,
+  Filtered,
+  UnsupportedLegacy,
+  UnsupportedSecurity,
+  UnavailableSecurityLevel,
+  ImproperSecurityLevel,
+  UnavailableKey,
+  ImproperKeyType,
+  UnavailableDevice,
+  CounterError,
+  SecurityError,
+  FrameTooLong,
+  InvalidParameter,
+}
 use Rattle.export.specs.Boundary.{Tally, tally, counted, many_by, many}
 
 -- one turn more
@@ -49,47 +62,71 @@ unfolding many_by
 ended zero n s o d c = refl
 ended (suc k) n s o d c = rw c
 
-split : (f : List ℕ) (at : ℕ) → at < length f → drop at f ≡ get_or f at 0 ∷ drop (at + 1) f
-split f at h = rw add-one (drop-cons f at 0 h)
+bit : (b : Bool) → bool_byte b ≤ 1
+bit true = omega arith
+bit false = omega arith
 
--- what holds before each turn: n of the frames before place at were accepted, and the rest is received on what they left
-pub record Run (s₀ o₀ f : List ℕ) (at n : ℕ) (s o : List ℕ) : Type 0 where
-  pub within : at ≤ length f
-  pub few : n ≤ at
-  pub rule : site_rule s ≡ true
-  pub same : many s₀ f o₀ ≡ many_by (length f) n s o (drop at f)
+-- what holds before each turn: n frames were accepted, and the rest l is received on what they left
+pub record Run (s₀ o₀ f : List ℕ) (n : ℕ) (s o l : List ℕ) : Type 0 where
+  pub few : n + length l ≤ length f
+  pub same : many s₀ f o₀ ≡ many_by (length f) n s o l
 
-pub run-none : (s o f : List ℕ) → site_rule s ≡ true → Run s o f 0 0 s o
+pub run-none : (s o f : List ℕ) → Run s o f 0 s o f
 unfolding many
-run-none s o f h = record { within = omega arith; few = omega arith; rule = h; same = refl }
+run-none s o f = record { few = omega arith; same = refl }
 
-module _ (s₀ o₀ f : List ℕ) (at n : ℕ) (s o : List ℕ) (r : Run s₀ o₀ f at n s o) where
-  pub run-end : length f ≤ at → tally n s o ≡ many s₀ f o₀
-  run-end h = sym (r.same ∙ ended (length f) n s o (drop at f) (drop_of_length-le f h))
+-- a refusal's number is none that counts
+no-count : (n : ℕ) (r : Refusal) → counted n (number r) ≡ n
+unfolding counted number
+no-count n r =
+    elim r as (λ r. counted n (number r) ≡ n) [
+      | Site ↦ refl
+      | Room ↦ refl
+      | Length ↦ refl
+      | Fcs ↦ refl
+      | Malformed ↦ refl
+      | Filtered ↦ refl
+      | UnsupportedLegacy ↦ refl
+      | UnsupportedSecurity ↦ refl
+      | UnavailableSecurityLevel ↦ refl
+      | ImproperSecurityLevel ↦ refl
+      | UnavailableKey ↦ refl
+      | ImproperKeyType ↦ refl
+      | UnavailableDevice ↦ refl
+      | CounterError ↦ refl
+      | SecurityError ↦ refl
+      | FrameTooLong ↦ refl
+      | InvalidParameter ↦ refl
+    ]
 
-  module _ (x : ℕ) (below : at < length f) (e : x ≡ get_or f at 0) where
-    front : drop at f ≡ x ∷ drop (at + 1) f
-    front = rw e (split f at below)
+-- a success counts one
+counted-ok : (n : ℕ) (a : Result Accepted Refusal) → counted n (answer_of a).status ≡ n + bool_byte (is_ok a)
+unfolding refusal counted
+counted-ok n (Ok a) = refl
+counted-ok n (Err r) = rw add-zero (no-count n r)
 
-    pub run-cut : length f - (at + 1) < x → tally n s o ≡ many s₀ f o₀
-    run-cut h =
-        sym (r.same ∙ cut (length f) n x s o (drop at f) (drop (at + 1) f) front (rw (length-drop (at + 1) f) h))
+module _ (s₀ o₀ f : List ℕ) (n : ℕ) (s o l : List ℕ) (r : Run s₀ o₀ f n s o l) where
+  pub run-end : length l ≡ 0 → tally n s o ≡ many s₀ f o₀
+  run-end h = sym (r.same ∙ ended (length f) n s o l (nil_from_length l h))
 
-    pub run-more : (y m : ℕ) (a : Received) (s' o' : List ℕ) → x ≤ length f - (at + 1) → y ≡ x
-        → outcome a s' o' ≡ received_valid s (take y (drop (at + 1) f)) o → m ≡ counted n a.status
-        → Run s₀ o₀ f (at + 1 + x) m s' o'
-    unfolding counted
-    run-more y m a s' o' h q w c =
-        let w' : outcome a s' o' ≡ received_valid s (take x (drop (at + 1) f)) o = rw q at w in
-        let l : m ≤ n + 1 = rw c (pick-le (eqb a.status 0) (n + 1) n (n + 1) (omega arith) (omega arith)) in
+  module _ (x y : ℕ) (k : List ℕ) (e : l ≡ x ∷ k) (d : y ≡ x) where
+    front : l ≡ y ∷ k
+    front = e ∙ ap (λ (z : ℕ). z ∷ k) (sym d)
+
+    pub run-cut : length k < y → tally n s o ≡ many s₀ f o₀
+    run-cut h = sym (r.same ∙ cut (length f) n y s o l k front h)
+
+    pub run-more : (b : Bool) (m : ℕ) (a : Result Accepted Refusal) (p q s' o' : List ℕ) → y ≤ length k → p ≡ take y k → q ≡ drop y k
+        → outcome (answer_of a) s' o' ≡ received_valid s p o → b ≡ is_ok a → m ≡ bool_byte b → Run s₀ o₀ f (n + m) s' o' q
+    run-more b m a p q s' o' h t u w i j =
+        let g : outcome (answer_of a) s' o' ≡ received_valid s (take y k) o = w ∙ ap (λ (z : List ℕ). received_valid s z o) t in
+        let c : counted n (answer_of a).status ≡ n + m = counted-ok n a ∙ ap (λ (z : Bool). n + bool_byte z) (sym i) ∙ ap (λ (z : ℕ). n + z) (sym j) in
+        let v : m ≤ 1 = rw j (bit b) in
         record {
-          within = omega arith;
-          few = omega (arith, r.few);
-          rule = ap (λ (u : Outcome). site_rule u.site) w' ∙ kept s (take x (drop (at + 1) f)) o r.rule;
+          few = omega (arith, ap length e, ap length u, length-drop y k, r.few);
           same =
               r.same
-              ∙ turn (length f) n x s o (drop at f) (drop (at + 1) f) (outcome a s' o') front (rw (length-drop (at + 1) f) h)
-              (rw (length-drop (at + 1) f) (omega arith)) w'
-              ∙ ap (λ (d : List ℕ). many_by (length f) (counted n a.status) s' o' d) (drop-drop x (at + 1) f)
-              ∙ ap (λ (k : ℕ). many_by (length f) k s' o' (drop (at + 1 + x) f)) (sym c);
+              ∙ turn (length f) n y s o l k (outcome (answer_of a) s' o') front h (omega (arith, ap length e, r.few)) g
+              ∙ ap (λ (z : ℕ). many_by (length f) z s' o' (drop y k)) c
+              ∙ ap (λ (z : List ℕ). many_by (length f) (n + m) s' o' z) (sym u);
         }

@@ -1,34 +1,41 @@
 -- What a callee did, told as the boundary tells it. Assumes nothing.
-use mathlib.Core.Path.{◌≡◌, sym, ap, ◌∙◌}
-use mathlib.Core.Bool.{Bool, true}
-use mathlib.Core.List.{List}
-use Prim.Native.Nat.{ℕ, ◌+◌, ◌*◌, ◌≤◌}
-use lib.ListN.{length}
-use lib.Seq.{sets}
-use Rattle.meaning.specs.Site.{site_rule}
-use Rattle.meaning.specs.Receive.{Outcome, outcome, received}
-use Rattle.meaning.specs.Build.{construction, built}
-use Rattle.meaning.specs.declared.Received.{Received}
+use Rattle.std.proofs.Common.{◌≡◌, refl, ap, ◌∙◌, List, ℕ, ◌+◌, ◌*◌, ◌≤◌, length, Result, Ok, Err}
+use Rattle.std.proofs.lemmas.List.Edits.{sets}
+use Rattle.std.specs.Result.{result_unwrap_or}
+use Rattle.meaning.specs.Status.{status}
+use Rattle.meaning.specs.Receive.{Outcome, refusal, answer_of, outcome, received}
+use Rattle.meaning.specs.declared.Accepted.{Accepted}
+use Rattle.meaning.specs.declared.Refusal.{Refusal}
+use Rattle.meaning.specs.Build.{built_of, construction, built}
 use Rattle.meaning.specs.declared.Request.{Request}
-use Rattle.meaning.specs.declared.Built.{Built}
 use Rattle.meaning.proofs.Tests.{off-lt}
 use Rattle.export.specs.Packed.{packed, request_from}
 use Rattle.export.specs.Boundary.{exchange, told, received_by, delivery, delivered, built_by}
 
-pub received-is : (r : Received) (s' o' a' s f o a : List ℕ)
-    → 48 ≤ length a → outcome r s' o' ≡ received s f o → a' ≡ sets a 0 (packed r)
-    → exchange r.status s' o' a' ≡ received_by s f o a
+-- the number of an answer
+pub told-status : (r : Result Accepted Refusal) → status r ≡ (answer_of r).status
+unfolding refusal
+told-status (Ok a) = refl
+told-status (Err r) = refl
+
+pub received-is : (r : Result Accepted Refusal) (n : ℕ) (s' o' a' s f o a : List ℕ)
+    → 48 ≤ length a → outcome (answer_of r) s' o' ≡ received s f o → a' ≡ sets a 0 (packed (answer_of r)) → n ≡ status r
+    → exchange n s' o' a' ≡ received_by s f o a
 unfolding received_by told
-received-is r s' o' a' s f o a h e w =
-    off-lt (length a) 48 (exchange 2 s o a) (told (received s f o) a) (exchange r.status s' o' a') h
-    (ap (λ (x : List ℕ). exchange r.status s' o' x) w ∙ ap (λ (u : Outcome). told u a) e)
+received-is r n s' o' a' s f o a h e w d =
+    off-lt (length a) 48 (exchange 2 s o a) (told (received s f o) a) (exchange n s' o' a') h
+    (ap (λ (i : ℕ). exchange i s' o' a') (d ∙ told-status r)
+    ∙ ap (λ (x : List ℕ). exchange (answer_of r).status s' o' x) w
+    ∙ ap (λ (u : Outcome). told u a) e)
 
-pub built-is : (b : Built) (s' out' s i o p out : List ℕ) (q : Request)
-    → q ≡ request_from i → construction b s' out' ≡ built s q o p out
-    → delivery (b.status + 256 * b.len) s' out' ≡ built_by s i o p out
+-- status and length of what building answers
+pub told-numbers : (r : Result ℕ Refusal) → status r + 256 * result_unwrap_or r 0 ≡ (built_of r).status + 256 * (built_of r).len
+told-numbers (Ok n) = refl
+told-numbers (Err r) = refl
+
+pub built-is : (r : Result ℕ Refusal) (n m : ℕ) (s' out' s i o p out : List ℕ) (q : Request)
+    → q ≡ request_from i → construction (built_of r) s' out' ≡ built s q o p out → n ≡ status r → m ≡ result_unwrap_or r 0
+    → delivery (n + 256 * m) s' out' ≡ built_by s i o p out
 unfolding built_by delivered
-built-is b s' out' s i o p out q h e = ap delivered e ∙ ap (λ (x : Request). delivered (built s x o p out)) h
-
--- the verdict u on a site
-pub holds-by : (s : List ℕ) (u : Bool) → u ≡ site_rule s → u ≡ true → site_rule s ≡ true
-holds-by s u d h = sym d ∙ h
+built-is r n m s' out' s i o p out q h e c d =
+    rw (c, d, told-numbers r) (ap delivered e ∙ ap (λ (x : Request). delivered (built s x o p out)) h)

@@ -3,11 +3,11 @@
 -- header_packed     a header in 29: kind, security, pending, request, compression, version, sequence, then destination and source
 -- packed           an answer in 48: status 1, header 29, level 1, key mode 1, device 2, private length 2, start 2 and length 2 of the open payload, then 8 zeros
 -- address_from, key_source_from, request_from   the same back for a request of 28 octets; octets past its end count as 0
+use Rattle.meaning.specs.Receive.{Received}
 use Rattle.std.specs.Prelude.{ℕ, ◌+◌, Bool, not, List, [], ◌∷◌, ◌++◌, get_or, eqb}
 use Rattle.meaning.specs.Octets.{le_at, octs}
 use Rattle.meaning.specs.declared.Address.{Address}
 use Rattle.meaning.specs.declared.Header.{Header}
-use Rattle.meaning.specs.declared.Received.{Received}
 use Rattle.meaning.specs.declared.Request.{Request}
 
 unfoldable pub address_packed : Address → List ℕ

@@ -1,5 +1,6 @@
 // The functions of the crate export, for C: the archive that include/wirdhalef.h is the manual of. A slice is a pointer and its length there.
-// Each function is the library's of the same name, and promises the same.
+// Each function is the library's of the same name, and promises the same: six functions of one line each, since the C interface needs a name,
+// a signature and a contract for each, and clauses are not written by macros.
 #![tactic(auto)]
 
 ghost use Rattle.std.specs.Prelude.{◌≡◌};

@@ -1,7 +1,9 @@
-// The 256 entries by which the FCS is summed: constants, made once and lent.
-ghost use Rattle.meaning.specs.Fcs.{IsTable};
+// The table by which the FCS is summed: 256 constants, and the sum by them, one octet after the other.
+ghost use Rattle.std.specs.Prelude.{◌≡◌};
+ghost use Rattle.meaning.specs.Fcs.{fed, sum, fcs_right, IsTable};
+ghost use Rattle.fcs.specs.Kept.{IsTable-prop};
 
-const TABLE: [u16; 256] = [
+const ENTRIES: [u16; 256] = [
     0x0000, 0x1189, 0x2312, 0x329b, 0x4624, 0x57ad, 0x6536, 0x74bf, 0x8c48, 0x9dc1, 0xaf5a, 0xbed3,
     0xca6c, 0xdbe5, 0xe97e, 0xf8f7, 0x1081, 0x0108, 0x3393, 0x221a, 0x56a5, 0x472c, 0x75b7, 0x643e,
     0x9cc9, 0x8d40, 0xbfdb, 0xae52, 0xdaed, 0xcb64, 0xf9ff, 0xe876, 0x2102, 0x308b, 0x0210, 0x1399,
@@ -26,9 +28,44 @@ const TABLE: [u16; 256] = [
     0x3de3, 0x2c6a, 0x1ef1, 0x0f78,
 ];
 
-// The FCS of each single octet.
-pub fn table() -> [u16; 256]
-    ensures { IsTable result }
-{
-    TABLE
+// A table that is made once and kept: entry x is the FCS of the octet x alone. Open, since a caller may bring any table of which that holds.
+#[derive(Drop)]
+pub struct Table {
+    pub entries: [u16; 256],
+    pub ghost is_table: { IsTable entries } by { IsTable-prop entries },
+}
+
+impl Table {
+    pub fn new() -> Table {
+        Table { entries: ENTRIES }
+    }
+
+    // The register after one octet more.
+    fn next(&self, r: u16, x: u8) -> u16
+        ensures { result ≡ fed 8 r x }
+    {
+        (r >> 8) ^ self.entries[((r ^ (x as u16)) & 0xff) as usize]
+    }
+
+    // The FCS of a list of octets.
+    pub fn sum(&self, s: &[u8]) -> u16
+        ensures { result ≡ sum s.now }
+    {
+        let mut r: u16 = 0;
+        for x in s {
+            r = self.next(r, *x);
+        }
+        r
+    }
+
+    // The last two octets are the FCS of the others.
+    pub fn right(&self, f: &[u8]) -> bool
+        ensures { result ≡ fcs_right f.now }
+    {
+        if f.len() < 2 {
+            return false;
+        }
+        let at = f.len() - 2;
+        octets::number::<u16>(f, at) == self.sum(&f[..at])
+    }
 }

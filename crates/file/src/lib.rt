@@ -4,36 +4,49 @@
 
 mod contents;
 
-ghost use Rattle.std.specs.Prelude.{◌≡◌, true, ◌<◌};
-ghost use Rattle.meaning.specs.Records.{kinds};
-ghost use Rattle.meaning.specs.File.{file_body, file_rule};
+ghost use Rattle.std.specs.Prelude.{◌≡◌, true};
+ghost use Rattle.meaning.specs.File.{file_count, file_body, file_rule};
+ghost use Rattle.records.specs.Kinds.{number_of};
 
-pub use contents::{FILE_MOST, count};
-use contents::{contents_right, inside};
+use contents::Contents;
+pub use contents::FILE_MOST;
+use records::{Kind, Layout};
 
 // Whether the octets, of any length and content, keep every rule of a site file.
+#[tactic(auto, unfolding(meaning::specs::File::file_rule, meaning::specs::File::file_store, meaning::specs::File::file_tables, meaning::specs::File::file_body))]
 pub fn file_holds(file: &[u8]) -> bool
     ensures { result ≡ file_rule file.now }
 {
-    if !contents_right(file) {
-        return false;
-    }
-    let settings = inside(file, records::SETTINGS);
-    records::tables_right(
-        &settings[..records::OWN_AT],
-        inside(file, records::DEVICES),
-        inside(file, records::LEVELS),
-        count(file, records::KEYS) as usize,
-        inside(file, records::LOOKUPS),
-        inside(file, records::USAGES),
-        inside(file, records::HANDLES),
-    )
+    records::holds::<Contents>(file)
 }
 
-// The records of a kind of a file that keeps its rules, as a part of the file.
-pub fn table<'a>(file: &'a [u8], kind: usize) -> &'a [u8]
-    requires { (file_rule file.now ≡ true) × (kind < kinds) }
-    ensures { result.now ≡ file_body file.now kind }
+// The count that the table of contents has for a kind.
+pub fn count(file: &[u8], kind: Kind) -> u16
+    ensures { result ≡ file_count file.now (number_of kind) }
 {
-    inside(file, kind)
+    Contents::count(file, kind)
+}
+
+// Octets that keep every rule of a site file.
+#[derive(Clone, Copy)]
+pub struct SiteFile<'a> {
+    pub octets: &'a [u8],
+    pub ghost holds: { file_rule octets.now ≡ true },
+}
+
+impl<'a> SiteFile<'a> {
+    pub fn new(octets: &'a [u8]) -> SiteFile<'a>
+        requires { file_rule octets.now ≡ true }
+        ensures { result.octets.now ≡ octets.now }
+    {
+        SiteFile { octets }
+    }
+
+    // The records of a kind, as a part of the file.
+    #[tactic(auto, unfolding(meaning::specs::File::file_body))]
+    pub fn table(self, kind: Kind) -> &'a [u8]
+        ensures { result.now ≡ file_body self.entry.octets.now (number_of kind) }
+    {
+        records::body::<Contents>(self.octets, kind)
+    }
 }

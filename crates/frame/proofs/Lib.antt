@@ -1,2 +1,3 @@
-pub mod Divided
+pub mod Bounds
+pub mod ByCuts
 pub mod Examples

@@ -1,4 +1,7 @@
-// Frame control, from a frame's first octets.
+// Frame control, from a frame's first octets: a line for each field, with the octet, the weight and the width that the standard gives it.
+// A generic function over these three would take them in the same line, and would not read as the definitions do.
+#![tactic(auto, unfolding(meaning::specs::Frame::type_of, meaning::specs::Frame::security_of, meaning::specs::Frame::pending_of, meaning::specs::Frame::request_of, meaning::specs::Frame::compression_of, meaning::specs::Frame::destination_mode, meaning::specs::Frame::version_of, meaning::specs::Frame::source_mode))]
+
 ghost use Rattle.std.specs.Prelude.{◌≡◌};
 ghost use Rattle.meaning.specs.Frame.{type_of, security_of, pending_of, request_of, compression_of, destination_mode, version_of, source_mode};
 

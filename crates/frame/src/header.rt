@@ -9,98 +9,60 @@ use crate::control::{
 use meaning::{Cuts, Header};
 
 // The fields of a header, 0 where absent. Sequence number and addresses are read one after the other by a reader.
+#[tactic(auto, unfolding(meaning::specs::Frame::header_of, meaning::specs::Frame::destination_of, meaning::specs::Frame::source_of, meaning::specs::Frame::destination_len, reader::specs::Fields::fields_of))]
 pub fn read_header(head: &[u8]) -> Header
     ensures { result ≡ header_of head.now }
 {
     let compression = compression_of(head);
     let fields = reader::read_fields(head, destination_mode(head), source_mode(head), compression);
-    let destination = fields.destination;
-    let source = fields.source;
     Header {
         kind: type_of(head),
         security: security_of(head),
         pending: pending_of(head),
         request: request_of(head),
-        compression: compression,
+        compression,
         version: version_of(head),
         sequence: fields.sequence,
-        destination: destination,
-        source: source,
+        destination: fields.destination,
+        source: fields.source,
     }
 }
 
 // Neither address has mode 1.
+#[tactic(auto, unfolding(meaning::specs::Frame::modes_right))]
 pub fn modes_right(h: Header) -> bool
     ensures { result ≡ modes_right h }
 {
-    let to = h.destination;
-    let from = h.source;
-    if to.mode == 1 {
-        return false;
-    }
-    from.mode != 1
+    h.destination.mode != 1 && h.source.mode != 1
 }
 
 // Compression stands only with both addresses.
+#[tactic(auto, unfolding(meaning::specs::Frame::compression_right))]
 pub fn compression_right(h: Header) -> bool
     ensures { result ≡ compression_right h }
 {
-    let to = h.destination;
-    let from = h.source;
-    if h.compression == 0 {
-        return true;
-    }
-    if to.mode == 0 {
-        return false;
-    }
-    from.mode != 0
+    h.compression == 0 || (h.destination.mode != 0 && h.source.mode != 0)
 }
 
 // The frame type allows the addresses, and of an acknowledgment security and size without FCS.
+#[tactic(auto, unfolding(meaning::specs::Frame::shape_right))]
 pub fn shape_right(h: Header, size: usize) -> bool
     ensures { result ≡ shape_right h size }
 {
-    let to = h.destination;
-    let from = h.source;
-    if h.kind == 0 {
-        if to.mode != 0 {
-            return false;
-        }
-        return from.mode != 0;
+    let to = h.destination.mode;
+    let from = h.source.mode;
+    match h.kind {
+        0 => to == 0 && from != 0,
+        2 => to == 0 && from == 0 && h.security == 0 && size == 3,
+        1 | 3 => to != 0 || from != 0,
+        _ => true,
     }
-    if h.kind == 2 {
-        if to.mode != 0 {
-            return false;
-        }
-        if from.mode != 0 {
-            return false;
-        }
-        if h.security != 0 {
-            return false;
-        }
-        return size == 3;
-    }
-    if 3 < h.kind {
-        return true;
-    }
-    if to.mode != 0 {
-        return true;
-    }
-    from.mode != 0
 }
 
 // The header's half of status 5 does not refuse; the size is without FCS.
+#[tactic(auto, unfolding(meaning::specs::Frame::head_right))]
 pub fn header_right(c: Cuts, h: Header, size: usize) -> bool
     ensures { result ≡ head_right c h size }
 {
-    if size < c.head {
-        return false;
-    }
-    if !modes_right(h) {
-        return false;
-    }
-    if !compression_right(h) {
-        return false;
-    }
-    shape_right(h, size)
+    c.head <= size && modes_right(h) && compression_right(h) && shape_right(h, size)
 }

@@ -1,54 +1,51 @@
-// Parts of what is lent, given back without copying.
-ghost use Rattle.std.specs.Prelude.{◌≡◌};
-ghost use Rattle.meaning.specs.Octets.{part};
-ghost use Rattle.frame.specs.Parts.{divided, open_payload};
+// What of a frame can be divided, and its open payload, given back without copying.
+ghost use Rattle.std.specs.Prelude.{◌≡◌, Some, None};
+ghost use Rattle.meaning.specs.Octets.{pick};
+ghost use Rattle.meaning.specs.Frame.{cuts_of};
+ghost use Rattle.frame.specs.Parts.{divided, cuts_in, open_payload};
 
 use crate::division::{body_fits, cuts, level_in, pending_right};
 use crate::header::{header_right, read_header};
+use crate::{MAX_LEN, MIN_LEN};
+use meaning::Cuts;
+use records::part_of;
 
-// The n octets from a place on, or as many of them as there are.
-pub fn part_of<'a>(s: &'a [u8], at: usize, n: usize) -> &'a [u8]
-    ensures { result.now ≡ part at n s.now }
+// The cuts of a frame, given without its FCS, that status 5 does not refuse.
+fn cuts_where_right(body: &[u8]) -> Option<Cuts>
+    ensures { result ≡ pick (divided body.now) (Some (cuts_of body.now)) None }
 {
-    if s.len() <= at {
-        return &s[..0];
-    }
-    if s.len() - at <= n {
-        return &s[at..];
-    }
-    &s[at..at + n]
+    let c = cuts(body);
+    let h = read_header(part_of(body, 0, c.head));
+    let right = header_right(c, h, body.len())
+        && body_fits(c, level_in(body, c), body.len())
+        && pending_right(h.kind, part_of(body, c.head + c.aux, c.opens));
+    if right { Some(c) } else { None }
 }
 
 // Status 5 does not refuse a frame, given without its FCS.
 pub fn divides(body: &[u8]) -> bool
     ensures { result ≡ divided body.now }
 {
-    let c = cuts(body);
-    let h = read_header(part_of(body, 0, c.head));
-    if !header_right(c, h, body.len()) {
-        return false;
-    }
-    if !body_fits(c, level_in(body, c), body.len()) {
-        return false;
-    }
-    pending_right(h.kind, part_of(body, c.head + c.aux, c.opens))
+    cuts_where_right(body).is_some()
 }
 
-// The open payload of a received frame with its FCS, a part of that frame; empty where the frame cannot be divided.
-pub fn open_payload<'a>(frame: &'a [u8]) -> &'a [u8]
+// The cuts of a received frame with its FCS; none where it cannot be divided.
+#[tactic(auto, using(meaning::proofs::Tests::tests, meaning::proofs::Tests::calls), unfolding(crate::specs::Parts::cuts_in, meaning::specs::Fcs::inner))]
+pub fn divided(frame: &[u8]) -> Option<Cuts>
+    ensures { result ≡ cuts_in frame.now }
+{
+    if frame.len() < MIN_LEN || MAX_LEN < frame.len() {
+        return None;
+    }
+    cuts_where_right(&frame[..frame.len() - 2])
+}
+
+// The open payload of a received frame with its FCS, a part of that frame; empty where the frame cannot be divided, as the definition has it.
+pub fn open_payload(frame: &[u8]) -> &[u8]
     ensures { result.now ≡ open_payload frame.now }
 {
-    if frame.len() < 5 {
-        return &frame[..0];
+    match divided(frame) {
+        Some(c) => part_of(frame, c.head + c.aux, c.opens),
+        None => &frame[..0],
     }
-    if 127 < frame.len() {
-        return &frame[..0];
-    }
-    let n = frame.len() - 2;
-    let body = &frame[..n];
-    if !divides(body) {
-        return &frame[..0];
-    }
-    let c = cuts(body);
-    part_of(body, c.head + c.aux, c.opens)
 }

@@ -1,34 +1,39 @@
 -- What is left at the end of the input: its octets are no whole frame, so that no line but its ending is printed.
 -- Assumes nothing.
-use Rattle.std.proofs.Common.{◌≡◌, ℕ, ◌+◌, ◌-◌, ◌≤◌, ◌<◌, Bool, true, false, List, [], ◌∷◌, ◌++◌, length, get_or, take, drop, refl, ap, ◌∙◌, arith, append-nil}
+use Rattle.std.proofs.Common.{◌≡◌, ℕ, ◌<◌, Bool, true, false, List, [], ◌∷◌, ◌++◌, length, get_or, refl, ap, ◌∙◌, arith, append-nil, None}
+use Rattle.std.specs.Bool.{then_some, ◌==◌}
+use Rattle.std.proofs.lemmas.Bool.Decides.{nat_tests}
 use lib.Dec.{leb, ltb}
-use borrow.Author.Tests.{ltb-true, ltb-false, leb-false, lt-ltb, le-leb}
-use Rattle.meaning.proofs.Scan.{pick-all}
+use borrow.Author.Tests.{lt-ltb, leb-false}
+use Rattle.lines.specs.Text.{cut_line}
 use Rattle.lines.specs.Log.{answers, lines_from, ending, printed_from}
 use Rattle.lines.proofs.Log.{items-cut, items-end}
-use Rattle.frame_log.specs.Buffers.{hand, end_of}
-use Rattle.frame_log.proofs.Hands.{hand-cons, length-hand}
+use Rattle.frame_log.specs.Buffers.{whole_len}
+
+-- the line that is written
+pub ending-none : (h : List ℕ) → true ≡ (length h == 0) → [] ≡ ending (ltb 0 (length h))
+unfolding ending
+ending-none [] e = refl
+ending-none (x ∷ l) e = absurd (grind (arith, nat_tests))
+
+pub ending-cut : (h : List ℕ) → false ≡ (length h == 0) → cut_line ≡ ending (ltb 0 (length h))
+unfolding ending
+ending-cut [] e = absurd (grind (arith, nat_tests))
+ending-cut (x ∷ l) e = rw (lt-ltb 0 (length (x ∷ l)) (omega arith)) refl
+
+-- a length octet and fewer octets than it says
+not-whole : (n : ℕ) (l : List ℕ) → whole_len (n ∷ l) ≡ None → length l < n
+unfolding whole_len
+not-whole n l e = by (leb n (length l)) refl e
+  where
+    by : (t : Bool) → leb n (length l) ≡ t → then_some t n ≡ None → length l < n
+    by true q e = absurd (let z : ◌≡◌ {A = ℕ} 0 1 = cc in omega arith)
+    by false q e = leb-false n (length l) q
 
 -- with 256 octets at hand a frame is whole
-frame-whole : (b : List ℕ) (at have : ℕ) → 256 ≤ have - at → get_or b at 0 < 256 → at < end_of b at have
-unfolding end_of
-frame-whole b at have h v =
-    let l : at < have = omega arith in
-    let w : get_or b at 0 ≤ have - at - 1 = omega arith in
-    rw (lt-ltb at have l, le-leb (get_or b at 0) (have - at - 1) w) (omega arith)
-
-pub frame-short : (b : List ℕ) (at have : ℕ) → get_or b at 0 < 256 → end_of b at have ≡ at → have - at < 256
-frame-short b at have v e = by (ltb (have - at) 256) refl
-  where
-    by : (t : Bool) → ltb (have - at) 256 ≡ t → have - at < 256
-    by true q = ltb-true (have - at) 256 q
-    by false q = absurd (let w = frame-whole b at have (ltb-false (have - at) 256 q) v in omega (arith, w, e))
-
-not-whole : (b : List ℕ) (at have : ℕ) → ltb at have ≡ true → end_of b at have ≡ at → have - at - 1 < get_or b at 0
-unfolding end_of
-not-whole b at have q e =
-    pick-all (λ (x : ℕ). x ≡ at → have - at - 1 < get_or b at 0) (leb (get_or b at 0) (have - at - 1)) (at + 1 + get_or b at 0) at
-    (λ t d. absurd (omega arith)) (λ f d. leb-false (get_or b at 0) (have - at - 1) f) (rw q at e)
+pub frame-short : (h : List ℕ) → get_or h 0 0 < 256 → whole_len h ≡ None → length h < 256
+frame-short [] v e = omega arith
+frame-short (n ∷ l) v e = let w = not-whole n l e in omega arith
 
 module _ (k : ℕ) (s o : List ℕ) where
   printed-none : printed_from k s o [] ≡ ending false
@@ -39,16 +44,6 @@ module _ (k : ℕ) (s o : List ℕ) where
   unfolding printed_from answers lines_from
   printed-cut v l h = rw (items-cut v l h)
 
-  pub printed-ending : (b : List ℕ) (at have : ℕ) → have ≤ length b → end_of b at have ≡ at → printed_from k s o (hand b at have ++ []) ≡ ending (ltb at have)
-  printed-ending b at have fit e = by (ltb at have) refl
-    where
-      by : (t : Bool) → ltb at have ≡ t → printed_from k s o (hand b at have ++ []) ≡ ending t
-      by false q =
-          let h : have ≤ at = ltb-false at have q in
-          let n : have - at ≡ 0 = omega arith in
-          ap (λ (l : List ℕ). printed_from k s o l) (append-nil (hand b at have) ∙ ap (λ (m : ℕ). take m (drop at b)) n) ∙ printed-none
-      by true q =
-          let h : at < have = ltb-true at have q in
-          let w : have - at - 1 < get_or b at 0 = not-whole b at have q e in
-          ap (λ (l : List ℕ). printed_from k s o l) (append-nil (hand b at have) ∙ hand-cons b at have fit h)
-          ∙ printed-cut (get_or b at 0) (hand b (at + 1) have) (omega (arith, length-hand b (at + 1) have fit))
+  pub printed-ending : (h : List ℕ) → whole_len h ≡ None → printed_from k s o (h ++ []) ≡ ending (ltb 0 (length h))
+  printed-ending [] e = printed-none
+  printed-ending (n ∷ l) e = rw (lt-ltb 0 (length (n ∷ l)) (omega arith)) (ap (λ (x : List ℕ). printed_from k s o x) (append-nil (n ∷ l)) ∙ printed-cut n l (not-whole n l e))

@@ -4,7 +4,7 @@ use Rattle.std.specs.Io.KnownBytes.{Consumes}
 use Rattle.std.specs.declared.option.Option.{Option}
 use borrow.Rule.Slice.PartMut.{put_mid}
 use Rattle.reading.proofs.Filling.{take-behind}
-use Rattle.frame_log.specs.Buffers.{hand}
+use Rattle.frame_log.specs.Hand.{hand}
 
 -- what is at hand behind n octets is what was read there
 pub read-behind : (a b : Option (List ℕ)) (n got k : ℕ) (l ys : List ℕ) → n ≤ length l → got ≤ length ys → Consumes a b (take got ys)

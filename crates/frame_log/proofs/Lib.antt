@@ -1,9 +1,9 @@
 pub mod Filling
 pub mod Hands
 pub mod Batches
+pub mod Endings
 pub mod Openings
 pub mod Replies
 pub mod Whole
-pub mod Endings
 pub mod Rounds
 pub mod Inputs

@@ -5,89 +5,112 @@ use mathlib.Core.Bool.{Bool, true, false}
 use mathlib.Core.List.{List}
 use Prim.Native.Nat.{ℕ, ◌+◌, ◌-◌, ◌≤◌, ◌<◌}
 use native.Mathlib.Omega.{arith}
-use lib.ListN.{length, take, replicate}
-use lib.Seq.{get_or-take, length-take-le}
-use lib.Dec.{ltb, eqb}
-use borrow.Author.Tests.{lt-ltb, le-ltb, ltb-false}
+use lib.ListN.{length, replicate}
+use lib.Dec.{ltb}
+use borrow.Author.Tests.{ltb-true, ltb-false}
+use Rattle.std.specs.Prelude.{Result, Ok, Err, is_ok}
+use Rattle.std.proofs.Common.{lit<}
 use Rattle.meaning.proofs.Scan.{pick-all}
 use Rattle.meaning.specs.Octets.{le_at}
 use Rattle.meaning.specs.File.{file_most, file_rule}
 use Rattle.meaning.specs.Site.{site_len, site_rule}
+use Rattle.meaning.specs.Status.{status, number}
 use Rattle.meaning.specs.Loading.{empty_site, Loaded, bridged, loaded, site_of}
-use Rattle.meaning.proofs.Bridges.{empty-length, load-done, load-refused, site-of-rule}
-use Rattle.frame_log.specs.Opening.{opening_of, opening_sized, Opened}
-use Rattle.frame_log.specs.declared.input.Opening.{Opening}
-use Rattle.frame_log.specs.declared.input.Opening.TheVariants.{Cut, Long, Site}
+use Rattle.meaning.specs.declared.Refusal.{Refusal}
+use Rattle.meaning.specs.declared.Refusal.TheVariants.{
+  Site,
+  Room,
+  Length,
+  Fcs,
+  Malformed,
+  Filtered,
+  UnsupportedLegacy,
+  UnsupportedSecurity,
+  UnavailableSecurityLevel,
+  ImproperSecurityLevel,
+  UnavailableKey,
+  ImproperKeyType,
+  UnavailableDevice,
+  CounterError,
+  SecurityError,
+  FrameTooLong,
+  InvalidParameter,
+}
+use Rattle.meaning.proofs.Bridges.{empty-length, load-done, load-refused, no-site-of, site-of-rule}
+use Rattle.frame_log.specs.Opening.{opening_of, opening_sized}
+use Rattle.frame_log.specs.declared.opening.Fault.{Fault}
+use Rattle.frame_log.specs.declared.opening.Fault.TheVariants.{Cut, Long}
 
-module _ (b : List ℕ) (have : ℕ) (fit : have ≤ length b) where
-  pub opening-empty : have < 2 → Cut ≡ opening_of (take have b)
-  unfolding opening_of
-  opening-empty h = rw (length-take-le have b fit, lt-ltb have 2 h)
+-- ---- the ways it begins
+pub data Begins (i : List ℕ) : Result ℕ Fault → Type 0 where
+  short : length i < 2 → Begins i (Err Cut)
+  some : 2 ≤ length i → le_at 2 i 0 ≤ file_most → length i - 2 < le_at 2 i 0 → Begins i (Err Cut)
+  long : 2 ≤ length i → file_most < le_at 2 i 0 → Begins i (Err Long)
+  full : 2 ≤ length i → le_at 2 i 0 ≤ file_most → le_at 2 i 0 ≤ length i - 2 → Begins i (Ok (le_at 2 i 0))
 
-  sized : 2 ≤ have → le_at 2 (take have b) 0 ≡ le_at 2 b 0
-  unfolding le_at
-  sized h = rw (get_or-take have b 0 0 (omega arith), get_or-take have b 1 0 (omega arith))
-
-  opening-by : (n : ℕ) → 2 ≤ have → n ≡ le_at 2 b 0 → opening_of (take have b) ≡ opening_sized n (take have b)
-  unfolding opening_of
-  opening-by n h e = rw (length-take-le have b fit, le-ltb have 2 h, sized h, e)
-
-  module _ (n : ℕ) (h : 2 ≤ have) (e : n ≡ le_at 2 b 0) where
-    pub opening-long : file_most < n → Long ≡ opening_of (take have b)
-    unfolding opening_sized
-    opening-long l = sym (opening-by n h e ∙ rw (lt-ltb file_most n l))
-
-    pub opening-short : n ≤ file_most → have - 2 < n → Cut ≡ opening_of (take have b)
-    unfolding opening_sized
-    opening-short l k = sym (opening-by n h e ∙ rw (le-ltb file_most n l, length-take-le have b fit, lt-ltb (have - 2) n k))
-
-    pub opening-site : n ≤ file_most → n ≤ have - 2 → Site n ≡ opening_of (take have b)
-    unfolding opening_sized
-    opening-site l k = sym (opening-by n h e ∙ rw (le-ltb file_most n l, length-take-le have b fit, le-ltb (have - 2) n k))
-
--- ---- what a file's length says
-data Shape (have : ℕ) : Opening → Type 0 where
-  cut : Shape have Cut
-  long : Shape have Long
-  full : {n : ℕ} → n ≤ file_most → 2 + n ≤ have → Shape have (Site n)
-
-shape : (b : List ℕ) (have : ℕ) → have ≤ length b → Shape have (opening_of (take have b))
+pub begins : (i : List ℕ) → Begins i (opening_of i)
 unfolding opening_of opening_sized
-shape b have fit =
-    rw (length-take-le have b fit)
-    (pick-all (Shape have) (ltb have 2) _ _ (λ e. cut)
-    (λ e. pick-all (Shape have) (ltb file_most (le_at 2 (take have b) 0)) _ _ (λ f. long)
-    (λ f. pick-all (Shape have) (ltb (have - 2) (le_at 2 (take have b) 0)) _ _ (λ g. cut)
-    (λ g.
-    let n : ℕ = le_at 2 (take have b) 0 in
-    let l : 2 ≤ have = ltb-false have 2 e in
-    let k : n ≤ have - 2 = ltb-false (have - 2) n g in
-    full (ltb-false file_most n f) (omega arith)))))
+begins i =
+    pick-all (Begins i) (ltb (length i) 2) _ _ (λ e. short (ltb-true _ _ e))
+    (λ e. pick-all (Begins i) (ltb file_most (le_at 2 i 0)) _ _ (λ f. long (ltb-false _ _ e) (ltb-true _ _ f))
+    (λ f. pick-all (Begins i) (ltb (length i - 2) (le_at 2 i 0)) _ _ (λ h. some (ltb-false _ _ e) (ltb-false _ _ f) (ltb-true _ _ h))
+    (λ h. full (ltb-false _ _ e) (ltb-false _ _ f) (ltb-false _ _ h))))
 
-shaped : {have n : ℕ} {o : Opening} → Shape have o → o ≡ Site n → (n ≤ file_most) × (2 + n ≤ have)
-shaped cut e = absurd (let z : ◌≡◌ {A = ℕ} 0 1 = cc in omega arith)
-shaped long e = absurd (let z : ◌≡◌ {A = ℕ} 0 1 = cc in omega arith)
-shaped {n = n} (full {n = m} h k) e = let q : m ≡ n = cc in (omega arith, omega arith)
+fits : {i : List ℕ} {r : Result ℕ Fault} (n : ℕ) → Begins i r → r ≡ Ok n → (n ≤ file_most) × (2 + n ≤ length i)
+fits n (short h) e = absurd (let z : ◌≡◌ {A = ℕ} 0 1 = cc in omega arith)
+fits n (some h l k) e = absurd (let z : ◌≡◌ {A = ℕ} 0 1 = cc in omega arith)
+fits n (long h l) e = absurd (let z : ◌≡◌ {A = ℕ} 0 1 = cc in omega arith)
+fits {i} n (full h l k) e = let q : le_at 2 i 0 ≡ n = cc in (omega arith, omega arith)
 
-pub file-fits : (b : List ℕ) (have n : ℕ) (o : Opening) → have ≤ length b → o ≡ opening_of (take have b) → o ≡ Site n → (n ≤ file_most) × (2 + n ≤ have)
-file-fits b have n o fit p q = shaped (shape b have fit) (sym p ∙ q)
+-- what a file's length says
+pub file-fits : (i : List ℕ) (r : Result ℕ Fault) (n : ℕ) → r ≡ opening_of i → r ≡ Ok n → (n ≤ file_most) × (2 + n ≤ length i)
+file-fits i r n p q = fits n (begins i) (sym p ∙ q)
+
+-- ---- a refusal's number is not success's
+above-0 : (r : Refusal) → 0 < number r
+unfolding number
+above-0 Site = lit< tt
+above-0 Room = lit< tt
+above-0 Length = lit< tt
+above-0 Fcs = lit< tt
+above-0 Malformed = lit< tt
+above-0 Filtered = lit< tt
+above-0 UnsupportedLegacy = lit< tt
+above-0 UnsupportedSecurity = lit< tt
+above-0 UnavailableSecurityLevel = lit< tt
+above-0 ImproperSecurityLevel = lit< tt
+above-0 UnavailableKey = lit< tt
+above-0 ImproperKeyType = lit< tt
+above-0 UnavailableDevice = lit< tt
+above-0 CounterError = lit< tt
+above-0 SecurityError = lit< tt
+above-0 FrameTooLong = lit< tt
+above-0 InvalidParameter = lit< tt
 
 -- ---- loading into zeros; r is what `load` answers
-zeros : (f s : List ℕ) (r : ℕ) → bridged r s ≡ loaded f empty_site → (s ≡ site_of f) × (r ≡ (loaded f empty_site).status)
-unfolding site_of
-zeros f s r e = (ap (λ (x : Loaded). x.site) e, ap (λ (x : Loaded). x.status) e)
+module _ (f z s : List ℕ) (r : Result (Unit {0}) Refusal) (h : z ≡ empty_site) (e : bridged (status r) s ≡ loaded f z) where
+  all : bridged (status r) s ≡ loaded f empty_site
+  all = e ∙ ap (loaded f) h
 
-told : (f : List ℕ) → eqb (loaded f empty_site).status 0 ≡ file_rule f
-told f = by (file_rule f) refl
-  where
-    by : (c : Bool) → file_rule f ≡ c → eqb (loaded f empty_site).status 0 ≡ file_rule f
-    by true e = rw (load-done f empty_site e empty-length, e)
-    by false e = rw (load-refused f empty_site e, e)
+  pub loaded-site : s ≡ site_of f
+  unfolding site_of
+  loaded-site = ap (λ (x : Loaded). x.site) all
 
-pub opened-by : (f z s : List ℕ) (r : ℕ) → z ≡ empty_site → bridged r s ≡ loaded f z → Opened f (eqb r 0) s
-opened-by f z s r h e =
-    let w = zeros f s r (e ∙ ap (loaded f) h) in
-    record { site = w.0; rule = ap (λ (n : ℕ). eqb n 0) w.1 ∙ told f ∙ sym (site-of-rule f) ∙ ap site_rule (sym w.0) }
+  told : status r ≡ (loaded f empty_site).status
+  told = ap (λ (x : Loaded). x.status) all
+
+  pub loaded-rule : is_ok r ≡ site_rule s
+  loaded-rule = told-by (file_rule f) refl r told ∙ sym (site-of-rule f) ∙ ap site_rule (sym loaded-site)
+    where
+      told-by : (c : Bool) → file_rule f ≡ c → (r : Result (Unit {0}) Refusal) → status r ≡ (loaded f empty_site).status → is_ok r ≡ file_rule f
+      told-by true d (Ok x) q = sym d
+      told-by true d (Err x) q = absurd (let l = rw (load-done f empty_site d empty-length) at q in omega (arith, above-0 x))
+      told-by false d (Ok x) q = absurd (let l = rw (load-refused f empty_site d) at q in omega arith)
+      told-by false d (Err x) q = sym d
+
+  -- what is not loaded leaves zeros
+  pub loaded-none : is_ok r ≡ false → empty_site ≡ site_of f
+  loaded-none n = sym (no-site-of f (sym (site-of-rule f) ∙ ap site_rule (sym loaded-site) ∙ sym loaded-rule ∙ n))
 
 pub zeros-are : replicate site_len 0 ≡ empty_site
 unfolding empty_site

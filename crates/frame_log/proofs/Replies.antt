@@ -1,24 +1,26 @@
--- A frame's status and private length, where the site holds its rules and where it breaks one.
+-- A frame's answer, where the site holds its rules and where none does.
 -- Assumes nothing.
 use mathlib.Core.Path.{◌≡◌, ap, ◌∙◌}
-use mathlib.Core.Bool.{true, false}
+use mathlib.Core.Bool.{true}
 use mathlib.Core.List.{List}
-use Prim.Native.Nat.{ℕ}
-use Rattle.meaning.specs.Status.{number}
+use Rattle.std.specs.Prelude.{ℕ, Ok, Err}
 use Rattle.meaning.specs.Site.{site_rule}
-use Rattle.meaning.specs.Receive.{Outcome, outcome, refusal, received_valid, received}
-use Rattle.meaning.specs.declared.Received.{Received}
+use Rattle.meaning.specs.Loading.{empty_site}
+use Rattle.meaning.specs.Receive.{Outcome, outcome, refusal, answer_of, received_valid, received}
+use Rattle.meaning.specs.declared.Accepted.{Accepted}
+use Rattle.meaning.specs.declared.Refusal.{Refusal}
+use Rattle.meaning.specs.declared.Refusal.TheVariants.{Site}
+use Rattle.meaning.proofs.Bridges.{empty-broken}
 use Rattle.frame_log.specs.Buffers.{Answered}
 
-module _ (s f o : List ℕ) where
-  by-rule : site_rule s ≡ true → received_valid s f o ≡ received s f o
+module _ (s f o s' o' : List ℕ) (h : site_rule s ≡ true) where
+  by-rule : received_valid s f o ≡ received s f o
   unfolding received
-  by-rule h = rw h
+  by-rule = rw h
 
-  pub answered-valid : (a : Received) (s' o' : List ℕ) → site_rule s ≡ true → outcome a s' o' ≡ received_valid s f o
-      → Answered s f o (record { status = a.status; private = a.private }) s' o'
-  answered-valid a s' o' h e =
-      let q : outcome a s' o' ≡ received s f o = e ∙ by-rule h in
+  pub answered-ok : (a : Accepted) → outcome (answer_of (Ok a)) s' o' ≡ received_valid s f o → Answered s f o (Ok a.private) s' o'
+  answered-ok a e =
+      let q : outcome (answer_of (Ok a)) s' o' ≡ received s f o = e ∙ by-rule in
       record {
         status = ap (λ (u : Outcome). u.answer.status) q;
         private = ap (λ (u : Outcome). u.answer.private) q;
@@ -26,6 +28,17 @@ module _ (s f o : List ℕ) where
         out = ap (λ (u : Outcome). u.out) q;
       }
 
-  pub answered-broken : site_rule s ≡ false → Answered s f o (record { status = 1; private = 0 }) s o
-  unfolding received refusal number
-  answered-broken h = record { status = rw h; private = rw h; site = rw h; out = rw h }
+  pub answered-err : (r : Refusal) → outcome (refusal r) s' o' ≡ received_valid s f o → Answered s f o (Err r) s' o'
+  unfolding refusal
+  answered-err r e =
+      let q : outcome (refusal r) s' o' ≡ received s f o = e ∙ by-rule in
+      record {
+        status = ap (λ (u : Outcome). u.answer.status) q;
+        private = ap (λ (u : Outcome). u.answer.private) q;
+        site = ap (λ (u : Outcome). u.site) q;
+        out = ap (λ (u : Outcome). u.out) q;
+      }
+
+pub answered-none : (f o : List ℕ) → Answered empty_site f o (Err Site) empty_site o
+unfolding received refusal
+answered-none f o = record { status = rw empty-broken; private = rw empty-broken; site = rw empty-broken; out = rw empty-broken }

@@ -1,3 +1,4 @@
-pub mod Opening
+pub mod Hand
 pub mod Buffers
+pub mod Opening
 pub mod Whole

@@ -1,149 +1,111 @@
 // Answers the frames at hand, a batch between a read and a write.
-ghost use Rattle.std.specs.Prelude.{◌≡◌, ◌+◌, ◌-◌, ◌<◌, ◌≤◌, length};
-ghost use Rattle.meaning.specs.Fcs.{IsTable};
-ghost use Rattle.meaning.specs.Sbox.{IsSbox};
-ghost use Rattle.meaning.specs.Site.{site_rule};
-ghost use Rattle.lines.specs.Text.{IsNames};
-ghost use Rattle.frame_log.specs.Buffers.{next_end, Answered, Stepped, Batched, Ended};
+ghost use Rattle.std.specs.Prelude.{◌≡◌, ◌+◌, ◌<◌, ◌≤◌, length, replicate, IfSome};
+ghost use Rattle.frame_log.specs.Buffers.{whole_len, next_len, kept, Answered, Stepped, Batched, Ended};
 
-// A frame's status and private length.
+use fcs::Table;
+use meaning::Refusal;
+use octets::Writer;
+use site::Site;
+
+// What frames are answered by, one after the other: the FCS's table, made once, the site if it keeps its rules, and the output.
 #[derive(Drop)]
-pub struct Reply {
-    pub status: u8,
-    pub private: usize,
+pub struct Gate<'a> {
+    pub table: Table,
+    pub site: Option<Site<'a>>,
+    pub out: [u8; 127],
 }
 
-// The next frame's number, where the next item starts, and how much of the text is used.
+// The next frame's number, and how many octets at hand are taken.
 #[derive(Drop)]
 pub struct Progress {
     pub number: u64,
-    pub at: usize,
-    pub used: usize,
+    pub taken: usize,
 }
 
-// Where the frame at hand ends that is to be answered next, or `at` where there is none, no room for its line, or no number.
-fn next_end(number: u64, room: usize, buf: &[u8], at: usize, have: usize) -> usize
-    requires { (at ≤ have) × (have ≤ length buf.now) }
-    ensures { result ≡ next_end number room buf.now at have }
+// How many octets the frame at hand has, if it is whole.
+#[tactic(auto, unfolding(crate::specs::Buffers::whole_len))]
+fn whole_len(hand: &[u8]) -> Option<usize>
+    ensures len { result ≡ whole_len hand.now }
+    ensures whole { IfSome result (λ n. n + 1 ≤ length hand.now) }
 {
-    if number < u64::MAX {
-        if 80 <= room {
-            if at < have {
-                let n = octets::wide(buf[at]);
-                if n <= have - at - 1 {
-                    return at + 1 + n;
-                }
-            }
-        }
-    }
-    at
+    let (n, rest) = hand.split_first()?;
+    let n = *n as usize;
+    (n <= rest.len()).then_some(n)
 }
 
-// The answer to a frame at a site; `ok` says whether the site holds its rules, and then they are not looked at again.
-fn answer(
-    sums: &[u16; 256],
-    sbox: &[u8; 256],
-    ok: bool,
-    site: &mut [u8],
-    frame: &[u8],
-    out: &mut [u8],
-) -> Reply
-    requires table { IsTable sums.now }
-    requires sbox { IsSbox sbox.now }
-    requires ok_value { ok ≡ site_rule site.old }
-    ensures { Answered site.old frame.now out.old result site.new out.new }
+// The same of the frame that is answered next: none where its line has no room, or it has no number.
+#[tactic(auto, unfolding(crate::specs::Buffers::next_len))]
+fn next_len(number: u64, room: usize, hand: &[u8]) -> Option<usize>
+    ensures len { result ≡ next_len number room hand.now }
+    ensures whole { IfSome result (λ n. (number < 18446744073709551615) × (80 ≤ room) × (n + 1 ≤ length hand.now)) }
 {
-    if ok {
-        let r = receiver::receive_valid(sums, sbox, site, frame, out);
-        return Reply {
-            status: r.status,
-            private: r.private,
-        };
-    }
-    Reply {
-        status: 1,
-        private: 0,
+    if number < u64::MAX && 80 <= room {
+        whole_len(hand)
+    } else {
+        None
     }
 }
 
-// Answers a frame, and puts its line at a place of the text.
-fn step(
-    sums: &[u16; 256],
-    sbox: &[u8; 256],
-    names: &[u8; 576],
-    ok: bool,
-    site: &mut [u8],
-    frame: &[u8],
-    out: &mut [u8],
-    number: u64,
-    text: &mut [u8],
-    at: usize,
-) -> usize
-    requires table { IsTable sums.now }
-    requires sbox { IsSbox sbox.now }
-    requires names { IsNames names.now }
-    requires ok_value { (ok ≡ site_rule site.old) × (at + 80 ≤ length text.old) }
-    ensures { Stepped site.old frame.now out.old number text.old at site.new out.new text.new result }
-{
-    let a = answer(sums, sbox, ok, site, frame, out);
-    lines::line(names, number, a.status, a.private as u64, text, at)
-}
-
-// Answers the whole frames at hand, one after the other, as long as the text has room; their lines stand in the text from its start on.
-// Each takes an octet or more. Where none is answered, fewer than 256 octets are at hand.
-pub fn batch(
-    sums: &[u16; 256],
-    sbox: &[u8; 256],
-    names: &[u8; 576],
-    ok: bool,
-    site: &mut [u8],
-    out: &mut [u8],
-    first: u64,
-    buf: &[u8],
-    from: usize,
-    have: usize,
-    text: &mut [u8],
-) -> Progress
-    requires table { IsTable sums.now }
-    requires sbox { IsSbox sbox.now }
-    requires names { IsNames names.now }
-    requires ok_value { (ok ≡ site_rule site.old) × (from ≤ have) × (have ≤ length buf.now) }
-    ensures batched { Batched site.old out.old first buf.now from have text.old site.new out.new text.new result }
-    ensures paced { result.number ≤ first + (result.at - from) }
-    ensures short { result.at ≡ from → 80 ≤ length text.old → first < 18446744073709551615 → have - from < 256 }
-{
-    let mut number = first;
-    let mut at = from;
-    let mut used: usize = 0;
-    loop {
-        let end = next_end(number, text.len() - used, buf, at, have);
-        if end <= at {
-            return Progress { number, at, used };
-        }
-        used = step(
-            sums,
-            sbox,
-            names,
-            ok,
+impl<'a> Gate<'a> {
+    // The output starts as zeros.
+    pub fn new(site: Option<Site<'a>>) -> Gate<'a>
+        ensures site { kept result.site ≡ kept site.entry }
+        ensures out { result.out ≡ replicate 127 0 }
+    {
+        Gate {
+            table: Table::new(),
             site,
-            &buf[at + 1..end],
-            out,
-            number,
-            text,
-            used,
-        );
-        number += 1;
-        at = end;
+            out: [0; 127],
+        }
+    }
+
+    // How many private octets an accepted frame has, or why it is refused: for its site where none keeps its rules.
+    fn answer(&mut self, frame: &[u8]) -> Result<usize, Refusal>
+        ensures { Answered (kept self.old.site) frame.now self.old.out result (kept self.new.site) self.new.out }
+    {
+        let Some(site) = &mut self.site else {
+            return Err(Refusal::Site);
+        };
+        let answer = receiver::receive_valid(&self.table, site, frame, &mut self.out)?;
+        Ok(answer.private)
+    }
+
+    // Answers a frame, and writes its line.
+    fn step(&mut self, frame: &[u8], number: u64, text: &mut Writer)
+        requires { text.old.at + 80 ≤ length text.old.out.now }
+        ensures { Stepped (kept self.old.site) frame.now self.old.out number text.old.out.now text.old.at (kept self.new.site) self.new.out text.new.out.now text.new.at }
+    {
+        let answer = self.answer(frame);
+        lines::line(text, number, answer.map(|_| ()), answer.unwrap_or(0) as u64);
+    }
+
+    // Answers the whole frames at hand, one after the other, as long as the text has room; their lines stand in the text from its start on.
+    // Each takes an octet or more. Where none is answered, fewer than 256 octets are at hand.
+    pub fn batch(&mut self, first: u64, hand: &[u8], text: &mut Writer) -> Progress
+        requires { text.old.at ≡ 0 }
+        ensures batched { Batched (kept self.old.site) self.old.out first hand.now text.old.out.now (kept self.new.site) self.new.out text.new.out.now text.new.at result }
+        ensures paced { result.number ≤ first + result.taken }
+        ensures short { result.taken ≡ 0 → 80 ≤ length text.old.out.now → first < 18446744073709551615 → length hand.now < 256 }
+    {
+        let mut number = first;
+        // A place and no slice that shrinks: the count taken is part of the answer.
+        let mut taken: usize = 0;
+        while let Some(n) = next_len(number, text.room(), &hand[taken..]) {
+            let start = taken + 1;
+            self.step(&hand[start..start + n], number, text);
+            number += 1;
+            taken = start + n;
+        }
+        Progress { number, taken }
     }
 }
 
-// Puts the line for octets that are left at the end of the input.
-pub fn finish(text: &mut [u8], at: usize, have: usize) -> usize
-    requires { 4 ≤ length text.old }
-    ensures { Ended text.old at have text.new result }
+// Writes the line for octets that are left at the end of the input.
+pub fn finish(hand: &[u8], text: &mut Writer)
+    requires { (text.old.at ≡ 0) × (4 ≤ length text.old.out.now) }
+    ensures { Ended hand.now text.new.out.now text.new.at }
 {
-    if at < have {
-        return lines::cut(text, 0);
+    if !hand.is_empty() {
+        lines::cut(text);
     }
-    0
 }

@@ -5,61 +5,54 @@
 #![tactic(auto)]
 
 mod frames;
-mod input;
+mod opening;
+mod window;
 
-ghost use Rattle.std.specs.Prelude.{◌≡◌, ◌++◌, ◌+◌, ◌-◌, ◌≤◌, length, take, replicate, OnOk};
-ghost use Rattle.meaning.specs.Site.{site_rule};
+ghost use Rattle.std.specs.Prelude.{◌≡◌, ◌++◌, ◌+◌, ◌≤◌, length, OnOk};
 ghost use Rattle.lines.specs.Log.{printed_from, printed};
-ghost use Rattle.frame_log.specs.Buffers.{hand};
+ghost use Rattle.frame_log.specs.Buffers.{kept};
+ghost use Rattle.frame_log.specs.Hand.{held};
 ghost use Rattle.frame_log.specs.Whole.{Prints};
 ghost use Rattle.reading.specs.Full.{HoldsEnd};
 
-use frames::{batch, finish};
-use input::{Opening, beginning, more, open_site};
+use frames::{Gate, finish};
+use octets::Writer;
+use opening::{Fault, beginning, open_site};
 use reading::read_full;
 use std::io;
 use std::io::{Read, Write};
+use window::Window;
 
 // How many octets are read at once, and how many are printed at most.
 const BUFFER: usize = 65536;
 
-// Prints the lines of the frames after the site file, to the end of the input. `ok` says whether the site keeps its rules.
+// Prints the lines of the frames after the site file, to the end of the input.
 // The frames are those at hand in a buffer that has room for one, and those left to be read.
+// A `loop`, since it ends within a turn, where a batch takes nothing.
 fn run<R: Read, W: Write>(
     input: &mut R,
     output: &mut W,
-    ok: bool,
-    site: &mut [u8],
-    buf: &mut [u8],
-    from: usize,
-    to: usize,
+    gate: &mut Gate,
+    window: &mut Window,
     text: &mut [u8],
 ) -> io::Result<()>
-    requires { (ok ≡ site_rule site.old) × ((from ≤ to) × (to ≤ length buf.old) × (80 ≤ length text.old)) }
-    ensures { HoldsEnd buf.old to (R.remaining input.old) → 256 ≤ length buf.old
-        → OnOk result (Prints (λ l. printed_from 1 site.old (replicate 127 0) (hand buf.old from to ++ l)) (2 + (to - from))
+    requires { 80 ≤ length text.old }
+    ensures { HoldsEnd window.old.buf.now window.old.have (R.remaining input.old) → 256 ≤ length window.old.buf.now
+        → OnOk result (Prints (λ l. printed_from 1 (kept gate.old.site) gate.old.out (held window.old ++ l)) (2 + length (held window.old))
         (R.remaining input.old) (W.contents output.old) (W.contents output.new)) }
 {
-    let sums = fcs::table();
-    let sbox = aes::sbox_table();
-    let names = lines::name_table();
-    let mut out = [0u8; 127];
-    let mut at = from;
-    let mut have = to;
     let mut number: u64 = 1;
     loop {
-        let p = more(input, buf, at, have)?;
-        let start = p.at;
-        let b = batch(
-            &sums, &sbox, &names, ok, site, &mut out, number, buf, start, p.have, text,
-        );
-        output.write_all(&text[..b.used])?;
-        if b.at <= start {
-            let e = finish(text, b.at, p.have);
-            return output.write_all(&text[..e]);
+        window.fill(input)?;
+        let mut lines = Writer::new(text);
+        let b = gate.batch(number, window.hand(), &mut lines);
+        output.write_all(lines.written())?;
+        if b.taken == 0 {
+            let mut ending = Writer::new(text);
+            finish(window.hand(), &mut ending);
+            return output.write_all(ending.written());
         }
-        at = b.at;
-        have = p.have;
+        window.skip(b.taken);
         number = b.number;
     }
 }
@@ -68,30 +61,31 @@ fn run<R: Read, W: Write>(
 fn start<R: Read, W: Write>(
     input: &mut R,
     output: &mut W,
-    buf: &mut [u8],
-    have: usize,
+    window: &mut Window,
     text: &mut [u8],
 ) -> io::Result<()>
-    requires { (have ≤ length buf.old) × (80 ≤ length text.old) }
-    ensures { HoldsEnd buf.old have (R.remaining input.old) → 4096 ≤ length buf.old
-        → OnOk result (Prints (λ l. printed (take have buf.old ++ l)) have
+    requires { (window.old.at ≡ 0) × (80 ≤ length text.old) }
+    ensures { HoldsEnd window.old.buf.now window.old.have (R.remaining input.old) → 4096 ≤ length window.old.buf.now
+        → OnOk result (Prints (λ l. printed (held window.old ++ l)) (length (held window.old))
         (R.remaining input.old) (W.contents output.old) (W.contents output.new)) }
 {
-    let h = lines::heading(text, 0);
-    match beginning(buf, have) {
-        Opening::Cut => {
-            let e = lines::cut(text, h);
-            output.write_all(&text[..e])
+    let mut head = Writer::new(text);
+    lines::heading(&mut head);
+    match beginning(window.hand()) {
+        Err(Fault::Cut) => {
+            lines::cut(&mut head);
+            output.write_all(head.written())
         }
-        Opening::Long => {
-            let e = lines::site(text, h);
-            output.write_all(&text[..e])
+        Err(Fault::Long) => {
+            lines::site(&mut head);
+            output.write_all(head.written())
         }
-        Opening::Site(n) => {
-            output.write_all(&text[..h])?;
-            let mut site = [0u8; site::SITE_LEN];
-            let ok = open_site(&buf[2..2 + n], &mut site);
-            run(input, output, ok, &mut site, buf, 2 + n, have, text)
+        Ok(n) => {
+            output.write_all(head.written())?;
+            let mut octets = [0u8; site::SITE_LEN];
+            let mut gate = Gate::new(open_site(&window.hand()[2..2 + n], &mut octets));
+            window.skip(2 + n);
+            run(input, output, &mut gate, window, text)
         }
     }
 }
@@ -103,7 +97,7 @@ fn print_log<R: Read, W: Write>(input: &mut R, output: &mut W) -> io::Result<()>
     let mut buf = [0u8; BUFFER];
     let mut text = [0u8; BUFFER];
     let have = read_full(input, &mut buf)?;
-    start(input, output, &mut buf, have, &mut text)
+    start(input, output, &mut Window::new(&mut buf, have), &mut text)
 }
 
 fn main(rt: HostRuntime) -> io::Result<()> {

@@ -1,4 +1,3 @@
 pub mod Puts
 pub mod Numbers
-pub mod Names
 pub mod Log

@@ -7,8 +7,7 @@ use Prim.Native.Nat.{ℕ, zero, suc, ◌≤◌, ◌<◌}
 use native.Mathlib.Omega.{arith}
 use lib.ListN.{length, take, drop, length-drop}
 use borrow.Author.Tests.{lt-ltb, le-ltb}
-use Rattle.meaning.specs.Receive.{received}
-use Rattle.meaning.specs.declared.Received.{Received}
+use Rattle.meaning.specs.Receive.{Received, received}
 use Rattle.lines.specs.Text.{line_of}
 use Rattle.lines.specs.Log.{none, with, items_by, items, answers, lines_from, ending, printed_from}
 

@@ -1,12 +1,15 @@
 -- Octets put into a buffer, one run after the other.
 -- Assumes nothing.
-use mathlib.Core.Path.{◌≡◌, refl, sym, ap, ap₂, ◌∙◌}
-use mathlib.Core.List.{List, [], ◌∷◌, ◌++◌}
-use Prim.Native.Nat.{ℕ, ◌+◌, ◌<◌}
+use mathlib.Core.Path.{◌≡◌, sym, ap, ap₂, ◌∙◌}
+use mathlib.Core.List.{List, ◌++◌}
+use Prim.Native.Nat.{ℕ, ◌+◌}
 use native.Mathlib.Omega.{arith}
-use lib.ListN.{length, take, drop, set, length-append}
+use lib.ListN.{length, take, drop, length-append}
 use lib.Seq.{sets, sets-eq, length-sets, length-take-le, take_at}
 use Rattle.meaning.proofs.Stores.{sets-append}
+use Rattle.octets.specs.declared.writer.Writer.{Writer}
+use Rattle.octets.specs.Writing.{Over}
+use Rattle.octets.proofs.Writing.{put-long}
 use Rattle.lines.specs.Text.{Put}
 
 pub long : {d : List ℕ} {at : ℕ} {u e : List ℕ} {r : ℕ} → Put d at u e r → length e ≡ length d
@@ -20,8 +23,9 @@ then {d} {at} {u} {e} {v} {f} {r} {q} a b =
       next = omega (arith, a.next, b.next, length-append u v);
     }
 
-pub one : (d : List ℕ) (at x : ℕ) → at < length d → Put d at (x ∷ []) (set d at x) (at + 1)
-one d at x h = record { room = omega arith; made = refl; next = refl }
+-- by a writer
+pub by : {w w' : Writer} {xs : List ℕ} → Over w w.at xs w' → Put w.out.now w.at xs w'.out.now w'.at
+by {w' = w'} p = record { room = omega (arith, w'.inside, p.next, put-long p); made = p.same; next = p.next }
 
 -- up to the place after them
 pub taken : {d : List ℕ} {at : ℕ} {u e : List ℕ} {r : ℕ} → Put d at u e r → take r e ≡ take at d ++ u

@@ -8,8 +8,7 @@ use Rattle.std.specs.Prelude.{Bool, true, false, List, [], ◌∷◌, ◌++◌, 
 use Rattle.meaning.specs.Octets.{pick, le_at, part}
 use Rattle.meaning.specs.File.{file_most}
 use Rattle.meaning.specs.Loading.{site_of}
-use Rattle.meaning.specs.Receive.{received}
-use Rattle.meaning.specs.declared.Received.{Received}
+use Rattle.meaning.specs.Receive.{Received, received}
 use Rattle.lines.specs.Text.{heading, cut_line, site_line, line_of}
 
 -- ---- the items: each a length octet and its octets

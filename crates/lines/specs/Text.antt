@@ -4,7 +4,7 @@
 -- heading, cut_line, site_line     the lines that are the same in each run
 -- line_of                         a frame's line
 -- Put                            octets put into a buffer at a place
-use Rattle.std.specs.Prelude.{◌≡◌, List, [], ◌∷◌, ◌++◌, ℕ, zero, suc, ◌+◌, ◌*◌, ◌/◌, ◌%◌, ◌<◌, ◌≤◌, ltb, length, get_or, take, drop}
+use Rattle.std.specs.Prelude.{◌≡◌, List, [], ◌∷◌, ◌++◌, ℕ, zero, suc, ◌+◌, ◌/◌, ◌%◌, ◌<◌, ◌≤◌, ltb, length, get_or}
 use Prim.Native.Char.{code}
 use Prim.Native.String.{String}
 use Prim.Native.String.{[] as none, ◌∷◌ as ◌then◌}
@@ -72,25 +72,13 @@ line_of number status octets = decimal number ++ (ascii " " ++ (name_of status +
 
 -- ---- what the functions promise
 -- the octets vs stand in d from a place on, which made it e, and r is the place after them
+-- of buffers and places alone: the laws of what is printed need no writer (a writer's `Over` gives it, proofs/Puts.antt)
 pub record Put (d : List ℕ) (at : ℕ) (vs e : List ℕ) (r : ℕ) : Type 0 where
   pub room : at + length vs ≤ length d
   pub made : e ≡ sets d at vs
   pub next : r ≡ at + length vs
 
--- and they are at most n
-pub record Near (n : ℕ) (d : List ℕ) (at : ℕ) (vs e : List ℕ) (r : ℕ) : Type 0 where
-  pub put : Put d at vs e r
-  pub near : r ≤ at + n
-
--- a row of 32 octets: a name's length, and the name
-pub record Row (t : List ℕ) (k : ℕ) : Type 0 where
-  pub fits : get_or t (32 * k) 0 < 32
-  pub text : take (get_or t (32 * k) 0) (drop (32 * k + 1) t) ≡ name_of k
-
--- t has a row for each status
-unfoldable pub IsNames : List ℕ → Type 0
-IsNames t = (k : ℕ) → k < statuses → Row t k
-
+-- a status's name
 pub record Named (k : ℕ) (l : List ℕ) : Type 0 where
   pub text : l ≡ name_of k
   pub short : length l < 32

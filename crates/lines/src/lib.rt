@@ -1,63 +1,26 @@
-// The lines of the log, put into a lent buffer at a place. Each function answers the place after its line and changes no other octet;
-// specs/Text.antt has the lines.
+// The lines of the log, put one behind the other by a writer. specs/Text.antt has the lines.
 #![tactic(auto)]
 
-ghost use Rattle.std.specs.Prelude.{◌≡◌, [], ◌∷◌, ◌+◌, ◌≤◌, ◌<◌, length};
-ghost use Rattle.lines.specs.Text.{Put, Near, IsNames, Named, statuses, decimal, heading, line_of, cut_line, site_line};
+mod names;
 
-// A row of 32 octets for each status, from 0 on: the length of its name, the name, dots.
-pub fn name_table() -> [u8; 576]
-    ensures { IsNames result }
-{
-    *b"\x07SUCCESS........................\
-        \x04SITE...........................\
-        \x04ROOM...........................\
-        \x06LENGTH.........................\
-        \x03FCS............................\
-        \x09MALFORMED......................\
-        \x08FILTERED.......................\
-        \x12UNSUPPORTED_LEGACY.............\
-        \x14UNSUPPORTED_SECURITY...........\
-        \x1aUNAVAILABLE_SECURITY_LEVEL.....\
-        \x17IMPROPER_SECURITY_LEVEL........\
-        \x0fUNAVAILABLE_KEY................\
-        \x11IMPROPER_KEY_TYPE..............\
-        \x12UNAVAILABLE_DEVICE.............\
-        \x0dCOUNTER_ERROR..................\
-        \x0eSECURITY_ERROR.................\
-        \x0eFRAME_TOO_LONG.................\
-        \x11INVALID_PARAMETER.............."
-}
+ghost use Rattle.std.specs.Prelude.{◌≡◌, ◌+◌, ◌%◌, ◌<◌, length};
+ghost use Rattle.meaning.specs.Status.{status};
+ghost use Rattle.octets.specs.Writing.{Room, Over};
+ghost use Rattle.lines.specs.Text.{Put, decimal, heading, line_of, cut_line, site_line};
 
-// A status's name, a part of the table.
-fn name(t: &[u8; 576], status: u8) -> &[u8]
-    requires names { IsNames t.now }
-    requires status_lt_statuses { status < statuses }
-    ensures { Named status result.now }
-{
-    let row = 32 * octets::wide(status);
-    let start = row + 1;
-    let end = start + octets::wide(t[row]);
-    let s = &t[..];
-    &s[start..end]
-}
+use meaning::Refusal;
+use octets::Writer;
 
-// Puts all of s at a place.
-fn put(out: &mut [u8], at: usize, s: &[u8]) -> usize
-    requires { at + length s.now ≤ length out.old }
-    ensures { Put out.old at s.now out.new result }
+// Puts a number, in decimal: the digits before the last, and the last. Calls itself 19 times at most.
+// By octets and not by `write!` and `Display`, which may answer an error: a line cannot fail.
+fn put_decimal(w: &mut Writer, n: u64)
+    requires { Room w.old (length (decimal n)) }
+    ensures { Over w.old w.old.at (decimal n) w.new }
 {
-    octets::copy_in(out, at, s);
-    at + s.len()
-}
-
-// Puts one octet at a place.
-fn put_octet(out: &mut [u8], at: usize, x: u8) -> usize
-    requires { at < length out.old }
-    ensures { Put out.old at (x ∷ []) out.new result }
-{
-    out[at] = x;
-    at + 1
+    if 10 <= n {
+        put_decimal(w, n / 10);
+    }
+    w.octet(digit(n % 10));
 }
 
 fn digit(n: u64) -> u8
@@ -67,57 +30,44 @@ fn digit(n: u64) -> u8
     48 + n as u8
 }
 
-// Puts a number at a place, in decimal.
-fn put_decimal(out: &mut [u8], at: usize, n: u64) -> usize
-    requires { at + 20 ≤ length out.old }
-    ensures { Near 20 out.old at (decimal n) out.new result }
-{
-    let mut digits = [0u8; 20];
-    let mut first: usize = 19;
-    let mut left = n;
-    while 10 <= left {
-        digits[first] = digit(left % 10);
-        first -= 1;
-        left = left / 10;
-    }
-    digits[first] = digit(left);
-    put(out, at, &digits[first..])
-}
-
 // Puts the heading.
-pub fn heading(out: &mut [u8], at: usize) -> usize
-    requires { at + 20 ≤ length out.old }
-    ensures { Put out.old at heading out.new result }
+pub fn heading(w: &mut Writer)
+    requires { Room w.old 20 }
+    ensures same_reference { w.new.out.ghost_name ≡ w.old.out.ghost_name }
+    ensures put { Put w.old.out.now w.old.at heading w.new.out.now w.new.at }
 {
-    put(out, at, b"frame status octets\n")
+    w.all(b"frame status octets\n");
 }
 
 // Puts the line that says that the input was cut.
-pub fn cut(out: &mut [u8], at: usize) -> usize
-    requires { at + 4 ≤ length out.old }
-    ensures { Put out.old at cut_line out.new result }
+pub fn cut(w: &mut Writer)
+    requires { Room w.old 4 }
+    ensures same_reference { w.new.out.ghost_name ≡ w.old.out.ghost_name }
+    ensures put { Put w.old.out.now w.old.at cut_line w.new.out.now w.new.at }
 {
-    put(out, at, b"CUT\n")
+    w.all(b"CUT\n");
 }
 
 // Puts the line that says that the site is too long.
-pub fn site(out: &mut [u8], at: usize) -> usize
-    requires { at + 5 ≤ length out.old }
-    ensures { Put out.old at site_line out.new result }
+pub fn site(w: &mut Writer)
+    requires { Room w.old 5 }
+    ensures same_reference { w.new.out.ghost_name ≡ w.old.out.ghost_name }
+    ensures put { Put w.old.out.now w.old.at site_line w.new.out.now w.new.at }
 {
-    put(out, at, b"SITE\n")
+    w.all(b"SITE\n");
 }
 
 // Puts a frame's line: its number, its status by name, and how many private octets it has.
-pub fn line(t: &[u8; 576], number: u64, status: u8, octets: u64, out: &mut [u8], at: usize) -> usize
-    requires names { IsNames t.now }
-    requires status_lt_statuses { (status < statuses) × (at + 80 ≤ length out.old) }
-    ensures { Put out.old at (line_of number status octets) out.new result }
+// Status and octets come apart, since `line_of` says any status beside any number of octets.
+pub fn line(w: &mut Writer, number: u64, answer: Result<(), Refusal>, octets: u64)
+    requires { Room w.old 80 }
+    ensures same_reference { w.new.out.ghost_name ≡ w.old.out.ghost_name }
+    ensures put { Put w.old.out.now w.old.at (line_of number (status answer) octets) w.new.out.now w.new.at }
 {
-    let a = put_decimal(out, at, number);
-    let b = put_octet(out, a, b' ');
-    let c = put(out, b, name(t, status));
-    let d = put_octet(out, c, b' ');
-    let e = put_decimal(out, d, octets);
-    put_octet(out, e, b'\n')
+    put_decimal(w, number);
+    w.octet(b' ');
+    w.all(names::name(answer));
+    w.octet(b' ');
+    put_decimal(w, octets);
+    w.octet(b'\n');
 }

@@ -2,67 +2,47 @@
 // Clients cite `loaded` and `site_from` of the meaning's Loading, and the laws of its proofs/Bridges.antt.
 #![tactic(auto)]
 
-ghost use Rattle.std.specs.Prelude.{◌≡◌, true, ◌<◌, length, replicate};
-ghost use Rattle.meaning.specs.Records.{kinds};
-ghost use Rattle.meaning.specs.File.{file_body, file_rule};
+ghost use Rattle.std.specs.Prelude.{◌≡◌, length};
+ghost use Rattle.meaning.specs.File.{file_body};
 ghost use Rattle.meaning.specs.Site.{site_len};
+ghost use Rattle.meaning.specs.Status.{status};
 ghost use Rattle.meaning.specs.Loading.{with_body, site_from, bridged, loaded};
+ghost use Rattle.records.specs.Kinds.{number_of};
 
+use file::SiteFile;
 use meaning::Refusal;
+use records::Kind;
 
-// Zeros everywhere.
-fn clear(s: &mut [u8])
-    ensures { s.new ≡ replicate (length s.old) 0 }
+// The count of a kind and its records, from a file into a site; all other octets stay.
+fn put_table(file: SiteFile, site: &mut [u8], kind: Kind)
+    requires { length site.old ≡ site_len }
+    ensures { site.new ≡ with_body site.old (number_of kind) (file_body file.entry.octets.now (number_of kind)) }
 {
-    let mut i: usize = 0;
-    while i < s.len() {
-        s[i] = 0;
-        i += 1;
-    }
-}
-
-// The count of a kind and its records, from a file that keeps its rules into a site; all other octets stay.
-fn put_table(file: &[u8], site: &mut [u8], kind: usize)
-    requires { (file_rule file.now ≡ true) × ((length site.old ≡ site_len) × (kind < kinds)) }
-    ensures { site.new ≡ with_body site.old kind (file_body file.now kind) }
-{
-    octets::put16(site, 2 * kind, file::count(file, kind));
-    octets::copy_in(site, site::place(kind), file::table(file, kind));
+    octets::put(site, 2 * (kind as usize), file::count(file.octets, kind));
+    octets::copy_in(site, site::place(kind), file.table(kind));
 }
 
 // All seven kinds, and zeros elsewhere.
-fn fill(file: &[u8], site: &mut [u8])
-    requires { (file_rule file.now ≡ true) × (length site.old ≡ site_len) }
-    ensures { site.new ≡ site_from file.now }
+fn fill(file: SiteFile, site: &mut [u8])
+    requires { length site.old ≡ site_len }
+    ensures { site.new ≡ site_from file.entry.octets.now }
 {
-    clear(site);
-    let mut kind: usize = 0;
-    while kind < records::KINDS {
+    site.fill(0);
+    for kind in Kind::ALL {
         put_table(file, site, kind);
-        kind += 1;
     }
 }
 
-// The status of loading a file into a site of so many octets: 1 for a file that breaks a rule, 2 for a site that has not a site's length, else 0.
-fn status(file: &[u8], site: &[u8]) -> u8
-    ensures { result ≡ (loaded file.now site.now).status }
+// Loads a file into a site, any octets of any length: then the site is the one that the file makes. A refusal changes nothing.
+pub fn load(file: &[u8], site: &mut [u8]) -> Result<(), Refusal>
+    ensures { bridged (status result) site.new ≡ loaded file.now site.old }
 {
     if !file::file_holds(file) {
-        return meaning::status_of(Refusal::Site);
+        return Err(Refusal::Site);
     }
     if site.len() != site::SITE_LEN {
-        return meaning::status_of(Refusal::Room);
+        return Err(Refusal::Room);
     }
-    0
-}
-
-// Loads a file into a site, any octets of any length: with status 0 the site is the one that the file makes, with any other nothing changes.
-pub fn load(file: &[u8], site: &mut [u8]) -> u8
-    ensures { bridged result site.new ≡ loaded file.now site.old }
-{
-    let r = status(file, &site[..]);
-    if r == 0 {
-        fill(file, site);
-    }
-    r
+    fill(SiteFile::new(file), site);
+    Ok(())
 }

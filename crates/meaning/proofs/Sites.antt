@@ -9,7 +9,7 @@ use lib.Seq.{length-take-le, take-take}
 use lib.Dec.{eqb}
 use borrow.Author.Tests.{eqb-true}
 use Rattle.meaning.specs.Octets.{part, tab}
-use Rattle.meaning.specs.Records.{settings, devices, keys, lookups, handles, kinds, width_of, limit_of, least_of, count_right, records, own_at, device_at, no_device, counter_at, handle_at, no_handle, Handle, store_rule}
+use Rattle.meaning.specs.Records.{settings, devices, keys, handles, kinds, width_of, limit_of, least_of, count_right, records, own_at, device_at, no_device, counter_at, handle_at, no_handle, Handle, store_rule}
 use Rattle.meaning.specs.Site.{place_of, site_len, count_of, layout_right, body, settings_of, tables_of, store_of, site_rule}
 use Rattle.meaning.specs.Steps.{key_of, handle_of}
 use Rattle.meaning.proofs.Lists.{and_both}

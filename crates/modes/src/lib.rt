@@ -2,12 +2,10 @@
 #![tactic(auto)]
 
 ghost use Rattle.std.specs.Prelude.{◌≡◌};
-ghost use Rattle.meaning.specs.Frame.{absent, address_len, tag_len, enciphers, at_least};
+ghost use Rattle.meaning.specs.Frame.{address_len, tag_len, enciphers, at_least};
 
-use meaning::Address;
-
-// One of the eight security levels (standard, Table 58), by its number; they stand under two orders at once.
-#[derive(Clone, Copy)]
+// One of the eight security levels (standard, Table 58), by its number; they stand under two orders at once. Document 01 names this form.
+#[derive(Clone, Copy, PartialEq, Eq)]
 pub struct Level(pub u8);
 
 impl Level {
@@ -28,23 +26,20 @@ impl Level {
     pub const ENC_MIC_128: Level = Level(7);
 
     // The octets of the tag: 0, 4, 8 or 16.
+    #[tactic(auto, unfolding(meaning::specs::Frame::tag_len))]
     pub fn tag_len(self) -> usize
         ensures { result ≡ tag_len self.0 }
     {
-        let class = self.0 % 4;
-        if class == 0 {
-            return 0;
+        match self.0 % 4 {
+            0 => 0,
+            1 => 4,
+            2 => 8,
+            _ => 16,
         }
-        if class == 1 {
-            return 4;
-        }
-        if class == 2 {
-            return 8;
-        }
-        16
     }
 
     // Levels 4 to 7 encipher the private payload.
+    #[tactic(auto, unfolding(meaning::specs::Frame::enciphers))]
     pub fn enciphers(self) -> bool
         ensures { result ≡ enciphers self.0 }
     {
@@ -52,57 +47,22 @@ impl Level {
     }
 
     // This level is at least the other, in both orders.
+    #[tactic(auto, unfolding(meaning::specs::Frame::at_least))]
     pub fn at_least(self, other: Level) -> bool
         ensures { result ≡ at_least self.0 other.0 }
     {
-        if self.0 / 4 < other.0 / 4 {
-            return false;
-        }
-        other.0 % 4 <= self.0 % 4
-    }
-}
-
-// The octets of a level's tag.
-pub fn tag_len(level: u8) -> usize
-    ensures { result ≡ tag_len level }
-{
-    Level(level).tag_len()
-}
-
-// A level enciphers the private payload.
-pub fn enciphers(level: u8) -> bool
-    ensures { result ≡ enciphers level }
-{
-    Level(level).enciphers()
-}
-
-// A level is at least the minimum, in both orders.
-pub fn at_least(level: u8, minimum: u8) -> bool
-    ensures { result ≡ at_least level minimum }
-{
-    Level(level).at_least(Level(minimum))
-}
-
-// No address: mode 0, and zero elsewhere.
-pub fn absent() -> Address
-    ensures { result ≡ absent }
-{
-    Address {
-        mode: 0,
-        pan: 0,
-        address: 0,
+        other.0 / 4 <= self.0 / 4 && other.0 % 4 <= self.0 % 4
     }
 }
 
 // The octets of an address, by its mode.
+#[tactic(auto, unfolding(meaning::specs::Frame::address_len))]
 pub fn address_len(mode: u8) -> usize
     ensures { result ≡ address_len mode }
 {
-    if mode == 2 {
-        return 2;
+    match mode {
+        2 => 2,
+        3 => 8,
+        _ => 0,
     }
-    if mode == 3 {
-        return 8;
-    }
-    0
 }

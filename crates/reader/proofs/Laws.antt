@@ -30,9 +30,9 @@ picked false true v a b c ea eb ec = eb
 picked false false true a b c ea eb ec = ec
 picked false false false a b c ea eb ec = refl
 
-pub number-past : (s : List ℕ) (at n : ℕ) → length s ≤ at → number_at s at n ≡ 0
+pub number_past : (s : List ℕ) (at n : ℕ) → length s ≤ at → number_at s at n ≡ 0
 unfolding number_at
-number-past s at n h = picked (eqb n 2) (eqb n 8) (eqb n 1) _ _ _ (le-past 2 s at h) (le-past 8 s at h) (le-past 1 s at h)
+number_past s at n h = picked (eqb n 2) (eqb n 8) (eqb n 1) _ _ _ (le-past 2 s at h) (le-past 8 s at h) (le-past 1 s at h)
 
 -- two places where the same is read
 data Near (s : List ℕ) : ℕ → ℕ → Type 0 where
@@ -41,7 +41,7 @@ data Near (s : List ℕ) : ℕ → ℕ → Type 0 where
 
 near-number : (s : List ℕ) (n : ℕ) {p q : ℕ} → Near s p q → number_at s p n ≡ number_at s q n
 near-number s n (here p) = refl
-near-number s n (beyond p q h k) = number-past s p n h ∙ sym (number-past s q n k)
+near-number s n (beyond p q h k) = number_past s p n h ∙ sym (number_past s q n k)
 
 near-after : (s : List ℕ) (n : ℕ) {p q : ℕ} → Near s p q → Near s (place_after (length s) p n) (q + n)
 unfolding place_after

@@ -18,42 +18,35 @@ pub struct Field {
 }
 
 // The number in n octets at a place, for n of 1, 2 and 8; 0 for another n.
+#[tactic(auto, unfolding(crate::specs::Fields::number_at, meaning::specs::Octets::le_at))]
 fn number_at(src: &[u8], at: usize, n: usize) -> u64
     requires { at < length src.now }
     ensures { result ≡ number_at src.now at n }
 {
-    if n == 2 {
-        return octets::number16(src, at) as u64;
+    match n {
+        1 => octets::octet(src, at) as u64,
+        2 => octets::number::<u16>(src, at) as u64,
+        8 => octets::number::<u64>(src, at),
+        _ => 0,
     }
-    if n == 8 {
-        return octets::number64(src, at);
-    }
-    if n == 1 {
-        return octets::octet(src, at) as u64;
-    }
-    0
 }
 
 // The field of n octets at a place; the place after it is the end at most.
+#[tactic(auto, using(crate::proofs::Laws::number_past), unfolding(crate::specs::Fields::field_at, crate::specs::Fields::place_after))]
 pub fn field_at(src: &[u8], at: usize, n: usize) -> Field
     ensures { result ≡ field_at src.now at n }
 {
     if src.len() <= at {
         return Field { value: 0, next: at };
     }
-    let value = number_at(src, at, n);
-    if src.len() - at < n {
-        return Field {
-            value: value,
-            next: src.len(),
-        };
-    }
+    let next = at + n.min(src.len() - at);
     Field {
-        value: value,
-        next: at + n,
+        value: number_at(src, at, n),
+        next,
     }
 }
 
+// A place in a frame. Document 01 names this form.
 #[derive(Clone, Copy)]
 pub struct Reader<'a> {
     pub src: &'a [u8],
@@ -107,6 +100,7 @@ pub struct Raw {
 }
 
 // Sequence number, destination PAN and address, source PAN and address, read one after the other.
+#[tactic(auto, unfolding(crate::specs::Fields::raw_of))]
 pub fn read_raw(head: &[u8], w: Widths) -> Raw
     ensures { result ≡ raw_of head.now w }
 {
@@ -132,19 +126,15 @@ pub fn read_raw(head: &[u8], w: Widths) -> Raw
 }
 
 // The octets of a PAN, by its address's mode; compression drops it.
+#[tactic(auto, unfolding(crate::specs::Fields::pan_len))]
 fn pan_len(mode: u8, compression: u8) -> usize
     ensures { result ≡ pan_len mode compression }
 {
-    if mode == 0 {
-        return 0;
-    }
-    if compression == 1 {
-        return 0;
-    }
-    2
+    if mode == 0 || compression == 1 { 0 } else { 2 }
 }
 
 // The octets of each address field, by the two modes; compression drops the source PAN.
+#[tactic(auto, unfolding(crate::specs::Fields::widths_of))]
 fn widths_of(destination: u8, source: u8, compression: u8) -> Widths
     ensures { result ≡ widths_of destination source compression }
 {
@@ -156,28 +146,17 @@ fn widths_of(destination: u8, source: u8, compression: u8) -> Widths
     }
 }
 
-fn low8(x: u64) -> u8
-    ensures { result ≡ x % 256 }
-{
-    (x % 256) as u8
-}
-
-fn low16(x: u64) -> u16
-    ensures { result ≡ x % 65536 }
-{
-    (x % 65536) as u16
-}
-
 // The address of a mode; all zero in mode 0.
+#[tactic(auto, unfolding(crate::specs::Fields::address_of))]
 fn address_of(mode: u8, pan: u64, number: u64) -> Address
     ensures { result ≡ address_of mode pan number }
 {
     if mode == 0 {
-        return modes::absent();
+        return Address::default();
     }
     Address {
-        mode: mode,
-        pan: low16(pan),
+        mode,
+        pan: (pan % 65536) as u16,
         address: number,
     }
 }
@@ -187,9 +166,10 @@ fn origin(compression: u8, pan: Field, sourcepan: Field) -> u64
     ensures { result ≡ pick (eqb compression 1) pan.value sourcepan.value }
 {
     if compression == 1 {
-        return pan.value;
+        pan.value
+    } else {
+        sourcepan.value
     }
-    sourcepan.value
 }
 
 // Sequence number and addresses.
@@ -205,13 +185,13 @@ pub fn read_fields(head: &[u8], destination: u8, source: u8, compression: u8) ->
     ensures { result ≡ fields_of head.now destination source compression }
 {
     let raw = read_raw(head, widths_of(destination, source, compression));
-    let sequence = raw.sequence;
-    let pan = raw.pan;
-    let to = raw.destination;
-    let from = raw.source;
     Fields {
-        sequence: low8(sequence.value),
-        destination: address_of(destination, pan.value, to.value),
-        source: address_of(source, origin(compression, pan, raw.sourcepan), from.value),
+        sequence: (raw.sequence.value % 256) as u8,
+        destination: address_of(destination, raw.pan.value, raw.destination.value),
+        source: address_of(
+            source,
+            origin(compression, raw.pan, raw.sourcepan),
+            raw.source.value,
+        ),
     }
 }

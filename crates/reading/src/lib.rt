@@ -9,6 +9,8 @@ use std::io;
 use std::io::Read;
 
 // Reads until the buffer is full or the input ends, and returns how many octets it put at the buffer's start.
+// By `read` alone: where the input ends early `read_exact` does not say what it read, and `read_to_end` wants a heap.
+// By `while`: what is done grows by what each `read` gives.
 pub fn read_full<R: Read>(input: &mut R, buf: &mut [u8]) -> io::Result<usize>
     ensures fit { IfOk result (λ n. n ≤ length buf.new) }
     ensures octets { IfOk result (λ n. Consumes (R.remaining input.old) (R.remaining input.new) (take n buf.new)) }

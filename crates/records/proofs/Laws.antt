@@ -1,85 +1,36 @@
--- What the tests and loops of this crate come to, each over what the callees ensure; and the rules of the decoded records by those of the octets.
+-- Kinds by their numbers, bodies by counts and places, and the rules of the decoded records by those of the octets.
 -- Assumes nothing.
-use mathlib.Core.Path.{◌≡◌, sym, ap, ap₂, ◌∙◌}
-use Prim.Native.Nat.{ℕ, suc, ◌+◌, ◌*◌, ◌≤◌, ◌<◌}
-use native.Mathlib.Nat.{mul-le-mul_left, mul-suc}
+use mathlib.Core.Path.{◌≡◌, refl, sym, ap, ap₂, ◌∙◌}
+use Prim.Native.Nat.{ℕ, ◌+◌, ◌*◌, ◌-◌, ◌≤◌, ◌<◌}
+use native.Mathlib.Nat.{add-sub_cancel_left}
 use native.Mathlib.Omega.{arith}
 use mathlib.Core.Bool.{Bool, true, false, not, ◌&&◌}
 use mathlib.Core.List.{List}
-use lib.ListN.{length, get_or, take}
+use lib.ListN.{length, get_or, take, drop, length-drop}
 use lib.Seq.{length-take-le}
-use lib.Dec.{eqb, leb, ltb}
-use borrow.Author.Tests.{not-true, not-false, eq-eqb, ne_eqb, lt-ltb, le-ltb, le-leb, lt-leb}
-use Rattle.meaning.specs.Octets.{le_at, every, tab}
-use Rattle.meaning.specs.Records.{settings, devices, levels, keys, lookups, usages, handles, width_of, count_right, records, own_at, tables_in, store_in, store_rule, device_at, no_device, handle_at, tables_by, settings_right, device_right, handle_right, clash, clashes, distinct, tables_rule}
-use Rattle.meaning.proofs.Tests.{not-on, not-off, eq-last, lt-last}
+use Rattle.meaning.specs.Octets.{every, tab}
+use Rattle.meaning.specs.Records.{settings, devices, levels, keys, lookups, usages, handles, kinds, width_of, records, own_at, store_rule, device_at, no_device, handle_at, tables_by, settings_right, device_right, level_right, lookup_right, usage_right, handle_right, clash, clashes, distinct, tables_rule}
 use Rattle.meaning.proofs.Scan.{some-same}
 use Rattle.meaning.proofs.Tabs.{length-tab, get_or-tab}
 use Rattle.meaning.proofs.Records.{all-tab, records-whole}
-use Rattle.records.specs.Rules.{record_right, clash_by, clashes_at, distinct_at}
+use denote.Enum.Declared.{tag_of}
+use Rattle.records.specs.contracts.Kind.{the_type}
+use Rattle.records.specs.declared.Kind.{Kind}
+use Rattle.records.specs.declared.Kind.TheVariants.{Settings, Devices, Levels, Keys, Lookups, Usages, Handles}
+use Rattle.records.specs.Kinds.{number_of}
+use Rattle.records.specs.Layouts.{body_by, holds_by}
+use Rattle.records.specs.Rules.{clashes_at, distinct_at}
 
--- ---- comparisons: as they stand, and with callees' results, where u says a and v says b
-pub eq-ends : (a b u v : ℕ) → u ≡ a → v ≡ b → eqb u v ≡ eqb a b
-eq-ends a b u v d e = rw (d, e)
-
-pub ge-by : (a b u : ℕ) → u ≡ a → b ≤ u → ltb a b ≡ false
-ge-by a b u d h = le-ltb a b (omega arith)
-
-pub lt-by : (a b u : ℕ) → u ≡ a → u < b → ltb a b ≡ true
-lt-by a b u d h = lt-ltb a b (omega arith)
-
-pub eq-right : (a b v : ℕ) → v ≡ b → a ≡ v → eqb a b ≡ true
-eq-right a b v d h = eq-eqb a b (h ∙ d)
-
-pub ne-right : (a b v : ℕ) → v ≡ b → (a ≡ v → ⊥) → eqb a b ≡ false
-ne-right a b v d h = ne_eqb a b (λ e. h (e ∙ sym d))
-
-pub le-both : (a b u v : ℕ) → u ≡ a → v ≡ b → u ≤ v → leb a b ≡ true
-le-both a b u v d e h = le-leb a b (omega arith)
-
-pub gt-both : (a b u v : ℕ) → u ≡ a → v ≡ b → v < u → leb a b ≡ false
-gt-both a b u v d e h = lt-leb a b (omega arith)
-
-pub le-ends : (a b u v : ℕ) → u ≡ a → v ≡ b → leb u v ≡ leb a b
-le-ends a b u v d e = rw (d, e)
-
-pub eq-both : (a b u v : ℕ) → u ≡ a → v ≡ b → u ≡ v → eqb a b ≡ true
-eq-both a b u v d e h = eq-eqb a b (sym d ∙ h ∙ e)
-
-pub ne-both : (a b u v : ℕ) → u ≡ a → v ≡ b → (u ≡ v → ⊥) → eqb a b ≡ false
-ne-both a b u v d e h = ne_eqb a b (λ z. h (d ∙ z ∙ sym e))
-
-pub ruleset sides =
-    (not-on, not-off, eq-eqb, ne_eqb, lt-ltb, le-ltb, le-leb, lt-leb, eq-last, lt-last, eq-ends, ge-by, lt-by, eq-right, ne-right, le-both, gt-both, eq-both, ne-both)
-
--- a count that a callee reads
-pub count-by : (k n m : ℕ) (u : Bool) → u ≡ count_right k n → n ≡ m → u ≡ count_right k m
-count-by k n m u d e = d ∙ ap (count_right k) e
-
--- an arm of a function of kinds
-pub of-kind : (f : ℕ → ℕ) (n k v : ℕ) → k ≡ n → v ≡ f n → v ≡ f k
-of-kind f n k v e d = rw e d
-
--- ---- a body's records
--- record i of n lies in the body
-pub room : (w i n l : ℕ) → i < n → w * n ≤ l → w * i + w ≤ l
-room w i n l h k = omega (arith, mul-suc w i, mul-le-mul_left {m = suc i} {n = n} w h)
-
--- where a test tells the kind
-pub at-width : (w n k i l : ℕ) → width_of n ≡ w → k ≡ n → width_of k * i + width_of k ≤ l → w * i + w ≤ l
-at-width w n k i l e d h = rw (d, e) at h
-
--- ---- clashes
-pub by-numbers : (b : List ℕ) (i j e s p : ℕ) (u : Bool) → u ≡ clash_by e s p (device_at b j) → e ≡ le_at 8 b (17 * i + 4)
-    → s ≡ le_at 2 b (17 * i + 2) → p ≡ le_at 2 b (17 * i) → u ≡ clash (device_at b i) (device_at b j)
-unfolding clash clash_by device_at
-by-numbers b i j e s p u d f g h = d ∙ rw (f, g, h)
-
-pub not-holds : (a : Bool) → true ≡ a → false ≡ not a
-not-holds a e = ap not e
-
-pub not-fails : (a : Bool) → false ≡ a → true ≡ not a
-not-fails a e = ap not e
+-- ---- kinds
+-- a kind's number is one of the seven
+pub kind-low : (k : Kind) → number_of k < kinds
+kind-low Settings = omega arith
+kind-low Devices = omega arith
+kind-low Levels = omega arith
+kind-low Keys = omega arith
+kind-low Lookups = omega arith
+kind-low Usages = omega arith
+kind-low Handles = omega arith
 
 -- ---- the decoded records, by the tests of the octets
 clashes-at : (b : List ℕ) (n i : ℕ) → i < n → clashes (tab (device_at b) n) i ≡ clashes_at b i
@@ -98,14 +49,14 @@ distinct-at b n =
 abbrev pub tested : ℕ → List ℕ → List ℕ → List ℕ → List ℕ → List ℕ → List ℕ → Bool
 tested nk t d l k u h =
     settings_right t
-    && (every (record_right devices nk (records 17 d) d) (records 17 d)
-    && (every (record_right levels nk (records 17 d) l) (records 5 l)
-    && (every (record_right lookups nk (records 17 d) k) (records 22 k)
-    && (every (record_right usages nk (records 17 d) u) (records 3 u)
-    && (every (record_right handles nk (records 17 d) h) (records 2 h) && distinct_at d (records 17 d))))))
+    && (every (λ i. device_right (device_at d i)) (records 17 d)
+    && (every (level_right l) (records 5 l)
+    && (every (lookup_right nk k) (records 22 k)
+    && (every (usage_right nk u) (records 3 u)
+    && (every (λ i. handle_right nk (records 17 d) (handle_at h i)) (records 2 h) && distinct_at d (records 17 d))))))
 
 pub by-tests : (nk : ℕ) (t d l k u h : List ℕ) (x : Bool) → x ≡ tested nk t d l k u h → x ≡ tables_rule nk (tables_by t d l k u h)
-unfolding tables_rule record_right
+unfolding tables_rule
 by-tests nk t d l k u h x e =
     e
     ∙ rw (
@@ -115,25 +66,43 @@ by-tests nk t d l k u h x e =
       distinct-at d (records 17 d),
     )
 
--- ---- the whole rule of a file or a site: its shape, then its records; u is what the check of the shape says, b k the body of kind k
-module _ (shape : Bool) (b : ℕ → List ℕ) (u : Bool) (d : u ≡ shape) where
-  abbrev pub Whole : Bool
-  Whole = shape && store_rule (store_in (tables_in (take own_at (b settings)) b) b)
+-- what `as` gives of a kind
+pub kind-tag : (k : Kind) → tag_of the_type k ≡ number_of k
+kind-tag Settings = refl
+kind-tag Devices = refl
+kind-tag Levels = refl
+kind-tag Keys = refl
+kind-tag Lookups = refl
+kind-tag Usages = refl
+kind-tag Handles = refl
 
-  pub shape-refused : not u ≡ true → false ≡ Whole
-  shape-refused h = rw (← d, not-true u h)
+-- the size of a body, by a count that a callee reads
+pub size-by : (w n m u : ℕ) → u ≡ w * n → n ≡ m → u ≡ w * m
+size-by w n m u d e = d ∙ ap (λ k. w * k) e
 
-  pub shape-kept : not u ≡ false → shape ≡ true
-  shape-kept h = sym d ∙ not-false u h
+-- ---- bodies: octets s; the count and place of each kind; h says that they are right
+module _ (s : List ℕ) (count place : List ℕ → ℕ → ℕ) where
+  pub part-is : (k a u : ℕ) → a ≡ place s k → u ≡ width_of k * count s k → take (a + u - a) (drop a s) ≡ body_by place count s k
+  part-is k a u d e = rw (add-sub_cancel_left, d, e)
+
+  pub body-length : (k : ℕ) → place s k + width_of k * count s k ≤ length s → length (body_by place count s k) ≡ width_of k * count s k
+  body-length k h = length-take-le (width_of k * count s k) (drop (place s k) s) (omega (arith, length-drop (place s k) s))
+
+  -- the settings reach past the own counter's place
+  pub settings-cut : (b : List ℕ) → place s settings + width_of settings * count s settings ≤ length s → 1 ≤ count s settings
+      → b ≡ body_by place count s settings → own_at ≡ length (take own_at b)
+  unfolding width_of
+  settings-cut b h w e = sym (length-take-le own_at b (omega (arith, ap length e, body-length settings h)))
 
   -- v is the check of the records; n is the count of the keys
-  pub whole-by : (v : Bool) (n : ℕ) (s t x l k q g : List ℕ) → not u ≡ false → length (b keys) ≡ 16 * n
-      → v ≡ tables_rule n (tables_by t x l k q g) → s ≡ b settings → t ≡ take own_at s
-      → x ≡ b devices → l ≡ b levels → k ≡ b lookups → q ≡ b usages → g ≡ b handles → v ≡ Whole
-  unfolding store_rule
-  whole-by v n s t x l k q g h c e es et ex el ek eq eg =
-      e ∙ rw (shape-kept h, records-whole 16 n (b keys) (omega arith) c, et, es, ex, el, ek, eq, eg)
+  pub whole-by : (shape : Bool) (u v : Bool) (n : ℕ) (t x l k q g : List ℕ) → u ≡ shape → u ≡ true → place s keys + width_of keys * count s keys ≤ length s
+      → v ≡ tables_rule n (tables_by t x l k q g) → t ≡ take own_at (body_by place count s settings)
+      → x ≡ body_by place count s devices → l ≡ body_by place count s levels → n ≡ count s keys
+      → k ≡ body_by place count s lookups → q ≡ body_by place count s usages → g ≡ body_by place count s handles → v ≡ holds_by shape (body_by place count s)
+  unfolding store_rule width_of
+  whole-by shape u v n t x l k q g d h i e et ex el en ek eq eg =
+      let m : records 16 (body_by place count s keys) ≡ count s keys = records-whole 16 (count s keys) (body_by place count s keys) (omega arith) (body-length keys i) in
+      e ∙ rw (← d, h, m, en, et, ex, el, ek, eq, eg)
 
--- the settings reach past the own counter's place
-pub settings-reach : (s : List ℕ) (w : ℕ) → length s ≡ 35 * w → 1 ≤ w → own_at ≡ length (take own_at s)
-settings-reach s w e h = sym (length-take-le own_at s (omega arith))
+pub refused : (shape u : Bool) (b : ℕ → List ℕ) → u ≡ shape → u ≡ false → u ≡ holds_by shape b
+refused shape u b d h = h ∙ rw (← d, h)

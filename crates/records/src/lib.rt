@@ -1,32 +1,35 @@
 // The records of the seven kinds, as the file and the site have them: their names, lengths and limits, and their rules.
+// Records are read by number and place, as the definitions number them; by `chunks_exact` their fields would be read by place all the same.
 // Clients cite `tables_rule`, `width_of`, `limit_of` and `least_of` of the meaning's Records.
 #![tactic(auto)]
 
 mod clashes;
+mod devices;
+mod layouts;
+mod parts;
 mod rules;
+mod settings;
 
-ghost use Rattle.std.specs.Prelude.{◌≡◌, ◌<◌};
-ghost use Rattle.meaning.specs.Records.{kinds, width_of, limit_of, least_of, count_right, tables_by, tables_rule};
+ghost use Rattle.std.specs.Prelude.{◌≡◌, ◌*◌};
+ghost use Rattle.meaning.specs.Records.{width_of, limit_of, least_of, count_right};
+ghost use Rattle.records.specs.Kinds.{number_of};
 
-use clashes::distinct;
-use rules::{all_right, settings_right};
+pub use devices::device_at;
+pub use layouts::{Bodies, Layout, body, holds};
+pub use parts::{part_of, rest_from};
+pub use settings::Settings;
 
-// The kinds, from 0.
-pub const SETTINGS: usize = 0;
-
-pub const DEVICES: usize = 1;
-
-pub const LEVELS: usize = 2;
-
-pub const KEYS: usize = 3;
-
-pub const LOOKUPS: usize = 4;
-
-pub const USAGES: usize = 5;
-
-pub const HANDLES: usize = 6;
-
-pub const KINDS: usize = 7;
+// The kinds of records, in the order that file and site have.
+#[derive(Clone, Copy, PartialEq, Eq)]
+pub enum Kind {
+    Settings = 0,
+    Devices = 1,
+    Levels = 2,
+    Keys = 3,
+    Lookups = 4,
+    Usages = 5,
+    Handles = 6,
+}
 
 // The octets of a record.
 pub const SETTINGS_LEN: usize = 35;
@@ -70,86 +73,73 @@ pub const TABLES_LEN: usize = SETTINGS_LEN * SETTINGS_LIMIT
 // Where the own counter stands in the settings.
 pub const OWN_AT: usize = 31;
 
-// The record length of a kind. A `match` is read from a table that is not copied.
-pub fn width(kind: usize) -> usize
-    requires { kind < kinds }
-    ensures { result ≡ width_of kind }
-{
-    match kind {
-        SETTINGS => SETTINGS_LEN,
-        DEVICES => DEVICE_LEN,
-        LEVELS => LEVEL_LEN,
-        KEYS => KEY_LEN,
-        LOOKUPS => LOOKUP_LEN,
-        USAGES => USAGE_LEN,
-        _ => HANDLE_LEN,
+impl Kind {
+    pub const ALL: [Kind; 7] = [
+        Kind::Settings,
+        Kind::Devices,
+        Kind::Levels,
+        Kind::Keys,
+        Kind::Lookups,
+        Kind::Usages,
+        Kind::Handles,
+    ];
+
+    // The octets of a record. This and the largest count are two tables of the document: one of pairs would be no plainer.
+    #[tactic(auto, unfolding(meaning::specs::Records::width_of))]
+    pub fn width(self) -> usize
+        ensures { result ≡ width_of (number_of self) }
+    {
+        match self {
+            Kind::Settings => SETTINGS_LEN,
+            Kind::Devices => DEVICE_LEN,
+            Kind::Levels => LEVEL_LEN,
+            Kind::Keys => KEY_LEN,
+            Kind::Lookups => LOOKUP_LEN,
+            Kind::Usages => USAGE_LEN,
+            Kind::Handles => HANDLE_LEN,
+        }
+    }
+
+    // The largest count.
+    #[tactic(auto, unfolding(meaning::specs::Records::limit_of))]
+    pub fn limit(self) -> usize
+        ensures { result ≡ limit_of (number_of self) }
+    {
+        match self {
+            Kind::Settings => SETTINGS_LIMIT,
+            Kind::Devices => DEVICE_LIMIT,
+            Kind::Levels => LEVEL_LIMIT,
+            Kind::Keys => KEY_LIMIT,
+            Kind::Lookups => LOOKUP_LIMIT,
+            Kind::Usages => USAGE_LIMIT,
+            Kind::Handles => HANDLE_LIMIT,
+        }
+    }
+
+    // The octets of n records.
+    pub fn size(self, n: u16) -> u32
+        ensures { result ≡ width_of (number_of self) * n }
+    {
+        self.width() as u32 * (n as u32)
+    }
+
+    // Whether a count is in range.
+    #[tactic(auto, unfolding(meaning::specs::Records::count_right))]
+    pub fn count_right(self, n: usize) -> bool
+        ensures { result ≡ count_right (number_of self) n }
+    {
+        least(self as usize) <= n && n <= self.limit()
     }
 }
 
-// The largest count of a kind.
-pub fn limit(kind: usize) -> usize
-    requires { kind < kinds }
-    ensures { result ≡ limit_of kind }
-{
-    match kind {
-        SETTINGS => SETTINGS_LIMIT,
-        DEVICES => DEVICE_LIMIT,
-        LEVELS => LEVEL_LIMIT,
-        KEYS => KEY_LIMIT,
-        LOOKUPS => LOOKUP_LIMIT,
-        USAGES => USAGE_LIMIT,
-        _ => HANDLE_LIMIT,
-    }
-}
-
-// There is just one settings record.
+// The smallest count of a kind: there is just one settings record. Of any number, since its contract asks nothing.
+#[tactic(auto, unfolding(meaning::specs::Records::least_of))]
 pub fn least(kind: usize) -> usize
     ensures { result ≡ least_of kind }
 {
-    if kind == SETTINGS { 1 } else { 0 }
-}
-
-// Whether a count is in the range of its kind.
-pub fn count_right(kind: usize, n: usize) -> bool
-    requires { kind < kinds }
-    ensures { result ≡ count_right kind n }
-{
-    if n < least(kind) {
-        return false;
+    if kind == Kind::Settings as usize {
+        1
+    } else {
+        0
     }
-    n <= limit(kind)
-}
-
-// Whether the records of these bodies keep every rule, where there are so many keys: any octets, of any length.
-pub fn tables_right(
-    settings: &[u8],
-    devices: &[u8],
-    levels: &[u8],
-    keys: usize,
-    lookups: &[u8],
-    usages: &[u8],
-    handles: &[u8],
-) -> bool
-    ensures { result ≡ tables_rule keys (tables_by settings.now devices.now levels.now lookups.now usages.now handles.now) }
-{
-    let n = devices.len() / DEVICE_LEN;
-    if !settings_right(settings) {
-        return false;
-    }
-    if !all_right(devices, DEVICES, n, keys, n) {
-        return false;
-    }
-    if !all_right(levels, LEVELS, levels.len() / LEVEL_LEN, keys, n) {
-        return false;
-    }
-    if !all_right(lookups, LOOKUPS, lookups.len() / LOOKUP_LEN, keys, n) {
-        return false;
-    }
-    if !all_right(usages, USAGES, usages.len() / USAGE_LEN, keys, n) {
-        return false;
-    }
-    if !all_right(handles, HANDLES, handles.len() / HANDLE_LEN, keys, n) {
-        return false;
-    }
-    distinct(devices, n)
 }

@@ -1,23 +1,35 @@
--- The searches over devices and handles by their octets; the key lookup by the source compared; a lookup record's test by its parts. Assumes nothing.
+-- What `find` over numbers gives is `first`; the searches over devices and handles by their octets; the key lookup by the source compared;
+-- a lookup record's test by its parts. Assumes nothing.
+use Rattle.std.specs.Prelude.{Option, Some, None}
+use Rattle.std.specs.declared.ops.Range.{Range}
+use Rattle.std.specs.Fn.{CalledAt}
+use Rattle.std.specs.Iterator.{FindsItem}
+use Rattle.std.specs.List.{find, range_with_len}
+use Rattle.std.proofs.lemmas.Iterator.{YieldsList-from_range}
+use Rattle.std.proofs.lemmas.Iterator.Search.{find_from_yields_List}
+use Rattle.std.proofs.iter.Yields.{nat_range_steps}
+use Rattle.std.proofs.lemmas.Iterator.Adapters.{option_map_id}
+use denote.Ref.{Bor}
+use denote.Param.Members.{Mut}
 use mathlib.Core.Path.{◌≡◌, refl, ap, sym, ◌∙◌}
-use mathlib.Core.Bool.{Bool, true, false, ◌&&◌}
+use mathlib.Core.Bool.{Bool, true, false, ◌&&◌, cond}
 use mathlib.Core.List.{List, ◌++◌}
-use Prim.Native.Nat.{ℕ, ◌+◌, ◌*◌, ◌-◌, ◌≤◌, ◌<◌}
+use Prim.Native.Nat.{ℕ, zero, suc, ◌+◌, ◌*◌, ◌-◌, ◌≤◌, ◌<◌}
+use native.Mathlib.Nat.{sub-zero}
+use native.Mathlib.Numerals.{add-one}
 use native.Mathlib.Omega.{arith}
 use lib.ListN.{length, get_or, take, drop, length-append}
 use lib.Seq.{sets, take_at, take-append-add}
 use lib.Dec.{eqb}
-use Rattle.meaning.specs.Octets.{first, octs, stands, tab}
+use Rattle.meaning.specs.Octets.{pick, scan, first, octs, stands, tab}
 use Rattle.meaning.specs.Frame.{address_len, key_source_len}
 use Rattle.meaning.specs.Records.{records, device_at, default_key_source, no_device, Handle, handle_at, no_handle, handles_in}
 use Rattle.meaning.specs.Steps.{is_peer, device_row, fits_lookup, peer_octets, key_source, key_row, handle_of, handle_row}
-use Rattle.meaning.specs.declared.Found.{Found}
-use Rattle.meaning.specs.declared.Found.TheVariants.{At, Nothing}
 use Rattle.meaning.specs.declared.Address.{Address}
 use Rattle.meaning.specs.declared.Device.{Device}
 use Rattle.meaning.proofs.Lists.{length-take-most}
 use Rattle.meaning.proofs.Lengths.{address-bound, key-source-bound}
-use Rattle.meaning.proofs.Scan.{Passed, is-hit, first-same, pick-all}
+use Rattle.meaning.proofs.Scan.{first-same, pick-all}
 use Rattle.meaning.proofs.Tests.{and-on, and_left, and_right}
 use Rattle.meaning.proofs.Tabs.{length-tab, get_or-tab}
 use Rattle.meaning.proofs.Stores.{sets-append, sets-whole}
@@ -25,16 +37,27 @@ use Rattle.meaning.proofs.Numbers.{length-octs, octs-add}
 use Rattle.meaning.proofs.Rows.{device-below, handle-below, source-below}
 use Rattle.search.specs.Rows.{implicit_row, key_row_by, handle_row_by}
 
--- a loop's return at its place
-pub at-hit : (p : ℕ → Bool) (n i : ℕ) → Passed p At Nothing n i → i < n → p i ≡ true → At i ≡ first p At Nothing n
-at-hit p n i = is-hit p At Nothing n i
+-- the first of n numbers from i on that passes a test, as a chain of the library says it and as the definitions do
+find-scan : (p : ℕ → Bool) (n i : ℕ) → find p (range_with_len i n) ≡ scan p Some None n i
+find-scan p zero i = refl
+find-scan p (suc n) i = here (p i) (find-scan p n (i + 1))
+  where
+    here : (t : Bool) → find p (range_with_len (i + 1) n) ≡ scan p Some None n (i + 1)
+        → cond t (Some i) (find p (range_with_len (i + 1) n)) ≡ pick t (Some i) (scan p Some None n (suc i))
+    here true e = refl
+    here false e = e ∙ ap (λ (j : ℕ). scan p Some None n j) (add-one i)
+
+-- `find` over the numbers below n, by a closure that gives p of each and changes nothing
+pub found-first : {F : Type 0} {g : Mut F (Bor ℕ × Unit {0}) Bool} (p : ℕ → Bool) (n : ℕ) (u : Range ℕ) (f : F) (r : Option ℕ)
+    → FindsItem nat_range_steps g (record { start = 0; end = n }) f r u → ((x : ℕ) (b : Bool) (q : F) → CalledAt g f x b q → (q ≡ f) × (b ≡ p x)) → r ≡ first p Some None n
+found-first p n u f r ran told = sym (option_map_id r) ∙ find_from_yields_List p u f r ran (YieldsList-from_range 0 n n refl (sub-zero n)) told ∙ find-scan p n 0
 
 -- ---- the devices by their octets
-pub device_row-tab : (b : List ℕ) (n : ℕ) (p : Address) → device_row (tab (device_at b) n) p ≡ first (λ d. is_peer p (device_at b d)) At Nothing n
+pub device_row-tab : (b : List ℕ) (n : ℕ) (p : Address) → device_row (tab (device_at b) n) p ≡ first (λ d. is_peer p (device_at b d)) Some None n
 unfolding device_row
 device_row-tab b n p =
     rw (length-tab (device_at b) n)
-    (first-same (λ d. is_peer p (get_or (tab (device_at b) n) d no_device)) (λ d. is_peer p (device_at b d)) At Nothing n
+    (first-same (λ d. is_peer p (get_or (tab (device_at b) n) d no_device)) (λ d. is_peer p (device_at b d)) Some None n
     (λ d l. ap (is_peer p) (get_or-tab (device_at b) no_device n d l)))
 
 -- ---- the handles by their octets
@@ -52,41 +75,28 @@ handle_row-by b ds k p =
     (first-same
     (λ j. eqb (get_or (handles_in b) j no_handle).key k && is_peer p (get_or ds (get_or (handles_in b) j no_handle).device no_device))
     (λ j. eqb (get_or b (2 * j) 0) k && is_peer p (get_or ds (get_or b (2 * j + 1) 0) no_device))
-    At Nothing (records 2 b)
+    Some None (records 2 b)
     (λ j l. ap (λ (x : Handle). eqb x.key k && is_peer p (get_or ds x.device no_device)) (handle-at b j l)))
 
 pub handle_row-tab : (b devices : List ℕ) (n k : ℕ) (p : Address) → ((j : ℕ) → j < records 2 b → get_or b (2 * j + 1) 0 < n)
     → handle_row (handles_in b) (tab (device_at devices) n) k p
-    ≡ first (λ j. eqb (get_or b (2 * j) 0) k && is_peer p (device_at devices (handle_at b j).device)) At Nothing (records 2 b)
+    ≡ first (λ j. eqb (get_or b (2 * j) 0) k && is_peer p (device_at devices (handle_at b j).device)) Some None (records 2 b)
 unfolding handle_row_by handle_at
 handle_row-tab b devices n k p h =
     handle_row-by b (tab (device_at devices) n) k p
     ∙ first-same
     (λ j. eqb (get_or b (2 * j) 0) k && is_peer p (get_or (tab (device_at devices) n) (get_or b (2 * j + 1) 0) no_device))
     (λ j. eqb (get_or b (2 * j) 0) k && is_peer p (device_at devices (get_or b (2 * j + 1) 0)))
-    At Nothing (records 2 b)
+    Some None (records 2 b)
     (λ j l. ap (λ (d : Device). eqb (get_or b (2 * j) 0) k && is_peer p d) (get_or-tab (device_at devices) no_device n (get_or b (2 * j + 1) 0) (h j l)))
 
 -- a handle found has its record there
-pub handle-below-by : (b : List ℕ) (ds : List Device) (k : ℕ) (p : Address) (u : Found) (j : ℕ) → u ≡ handle_row (handles_in b) ds k p → u ≡ At j → j < records 2 b
+pub handle-below-by : (b : List ℕ) (ds : List Device) (k : ℕ) (p : Address) (u : Option ℕ) (j : ℕ) → u ≡ handle_row (handles_in b) ds k p → u ≡ Some j → j < records 2 b
 handle-below-by b ds k p u j e h = rw (length-tab (handle_at b) (records 2 b)) at (handle-below (handles_in b) ds k p u j e h)
 
 -- a device found by its octets has its record there
-pub device-below-tab : (b : List ℕ) (n : ℕ) (p : Address) (u : Found) (d : ℕ) → u ≡ device_row (tab (device_at b) n) p → u ≡ At d → d < n
+pub device-below-tab : (b : List ℕ) (n : ℕ) (p : Address) (u : Option ℕ) (d : ℕ) → u ≡ device_row (tab (device_at b) n) p → u ≡ Some d → d < n
 device-below-tab b n p u d e h = rw (length-tab (device_at b) n) at (device-below (tab (device_at b) n) p u d e h)
-
--- what callees say of device u: x is its record, r whether that is the peer's; u is read as d
-pub peer-by : (p : Address) (devices : List ℕ) (d u : ℕ) (x : Device) (r z : Bool) → u ≡ d → x ≡ device_at devices u → r ≡ is_peer p x → r ≡ z → is_peer p (device_at devices d) ≡ z
-peer-by p devices d u x r z e f h k = rw (f, e) at (sym h) ∙ k
-
-pub peer-at : (p : Address) (devices : List ℕ) (d : ℕ) (x : Device) (r z : Bool) → x ≡ device_at devices d → r ≡ is_peer p x → r ≡ z → is_peer p (device_at devices d) ≡ z
-peer-at p devices d x r z f h k = peer-by p devices d d x r z refl f h k
-
--- a device that a handle of the table names is there
-pub handle-in : (b devices : List ℕ) (j u : ℕ) → ((j : ℕ) → j < records 2 b → get_or b (2 * j + 1) 0 < records 17 devices) → j < records 2 b → u ≡ (handle_at b j).device
-    → u < records 17 devices
-unfolding handle_at
-handle-in b devices j u h l e = rw e (h j l)
 
 -- ---- keys
 pub key_row-by : (b t : List ℕ) (mode index : ℕ) (given : List ℕ) (p : Address)
@@ -94,7 +104,7 @@ pub key_row-by : (b t : List ℕ) (mode index : ℕ) (given : List ℕ) (p : Add
 unfolding key_row key_row_by implicit_row
 key_row-by b t mode index given p = refl
 
-pub key-below : (b : List ℕ) (mode index : ℕ) (source : List ℕ) (p : Address) (u : Found) (i : ℕ) → u ≡ key_row_by b mode index source p → u ≡ At i → i < records 22 b
+pub key-below : (b : List ℕ) (mode index : ℕ) (source : List ℕ) (p : Address) (u : Option ℕ) (i : ℕ) → u ≡ key_row_by b mode index source p → u ≡ Some i → i < records 22 b
 unfolding key_row_by implicit_row
 key-below = source-below
 

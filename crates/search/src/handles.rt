@@ -3,31 +3,26 @@ ghost use Rattle.std.specs.Prelude.{◌≡◌, ℕ, ◌+◌, ◌*◌, ◌/◌, �
 ghost use Rattle.meaning.specs.Records.{records, handle_at, devices_in, handles_in};
 ghost use Rattle.meaning.specs.Steps.{handle_row};
 
-use crate::peers::{device_at, is_peer};
-use meaning::{Address, Found};
+use crate::peers::is_peer;
+use meaning::Address;
+use records::{HANDLE_LEN, device_at};
 
 // The device that handle j names.
+#[tactic(auto, unfolding(meaning::specs::Records::handle_at))]
 pub fn device_of(handles: &[u8], j: usize) -> usize
     requires { j < records 2 handles.now }
     ensures { result ≡ (handle_at handles.now j).device }
 {
-    octets::wide(handles[2 * j + 1])
+    handles[HANDLE_LEN * j + 1] as usize
 }
 
 // The first handle of the key whose device is the peer. Only the devices of the key's own handles are looked at.
-pub fn handle_row(handles: &[u8], devices: &[u8], key: usize, p: Address) -> Found
+pub fn handle_row(handles: &[u8], devices: &[u8], key: usize, p: Address) -> Option<usize>
     requires { (j : ℕ) → j < records 2 handles.now → get_or handles.now (2 * j + 1) 0 < records 17 devices.now }
     ensures { result ≡ handle_row (handles_in handles.now) (devices_in devices.now) key p }
 {
-    let n = handles.len() / 2;
-    let mut j: usize = 0;
-    while j < n {
-        if octets::wide(handles[2 * j]) == key {
-            if is_peer(device_at(devices, device_of(handles, j)), p) {
-                return Found::At(j);
-            }
-        }
-        j += 1;
-    }
-    Found::Nothing
+    (0..handles.len() / HANDLE_LEN).find(|&j| {
+        handles[HANDLE_LEN * j] as usize == key
+            && is_peer(device_at(devices, device_of(handles, j)), p)
+    })
 }

@@ -6,32 +6,31 @@ ghost use Rattle.meaning.specs.Steps.{lookup_row, key_of, usage_row};
 ghost use Rattle.search.specs.Rows.{key_row_by, implicit_row};
 
 use crate::levels::fits_at;
-use meaning::{Address, Found};
+use meaning::Address;
+use records::{LOOKUP_LEN, USAGE_LEN};
 
 // The lookup record that starts at `from` has the mode, and the octet `lead` at its place `at`.
 fn leads(lookups: &[u8], from: usize, mode: u8, at: usize, lead: u8) -> bool
     requires { (from + 2 ≤ length lookups.now) × (from + at < length lookups.now) }
     ensures { result ≡ (eqb (get_or lookups.now (from + 1) 0) mode && eqb (get_or lookups.now (from + at) 0) lead) }
 {
-    if lookups[from + 1] != mode {
-        return false;
-    }
-    lookups[from + at] == lead
+    lookups[from + 1] == mode && lookups[from + at] == lead
 }
 
 // The first lookup record of the mode with the octet `lead` at its place `at`, and after it all octets wanted. Every key mode is such a search.
-pub fn lookup_row(lookups: &[u8], mode: u8, at: usize, lead: u8, wanted: &[u8]) -> Found
+pub fn lookup_row(lookups: &[u8], mode: u8, at: usize, lead: u8, wanted: &[u8]) -> Option<usize>
     requires { at + 1 + length wanted.now ≤ 22 }
     ensures { result ≡ lookup_row lookups.now mode at lead wanted.now }
 {
-    let n = lookups.len() / 22;
+    // The counters stay, since document 01 names this form: a `for` yields no number by `break`, and the number is to come from inside the comparison.
+    let n = lookups.len() / LOOKUP_LEN;
     let m = wanted.len();
     let mut i: usize = 0;
     let number = 'records: loop {
         if n <= i {
-            return Found::Nothing;
+            return None;
         }
-        let from = 22 * i;
+        let from = LOOKUP_LEN * i;
         if leads(lookups, from, mode, at, lead) {
             let mut j: usize = 0;
             loop {
@@ -46,7 +45,7 @@ pub fn lookup_row(lookups: &[u8], mode: u8, at: usize, lead: u8, wanted: &[u8]) 
         }
         i += 1;
     };
-    Found::At(number)
+    Some(number)
 }
 
 // PAN and address of a peer, the address as if it were extended.
@@ -54,18 +53,19 @@ fn peer_octets(p: Address) -> [u8; 10]
     ensures { result ≡ octs 2 p.pan ++ octs 8 p.address }
 {
     let mut octets = [0u8; 10];
-    octets::put16(&mut octets, 0, p.pan);
-    octets::put64(&mut octets, 2, p.address);
+    octets::put(&mut octets, 0, p.pan);
+    octets::put(&mut octets, 2, p.address);
     octets
 }
 
 // The first lookup record of mode 0 with the peer's mode, PAN and address; none where the peer is nobody.
-fn implicit_row(lookups: &[u8], p: Address) -> Found
+#[tactic(auto, unfolding(crate::specs::Rows::implicit_row))]
+fn implicit_row(lookups: &[u8], p: Address) -> Option<usize>
     ensures { result ≡ implicit_row lookups.now p }
 {
     let mode = p.mode;
     if mode == 0 {
-        return Found::Nothing;
+        return None;
     }
     let octets = peer_octets(p);
     let n = 2 + modes::address_len(mode);
@@ -73,38 +73,31 @@ fn implicit_row(lookups: &[u8], p: Address) -> Found
 }
 
 // The first lookup record that matches: in mode 0 by the peer, otherwise by index and key source.
-pub fn key_row(lookups: &[u8], mode: u8, index: u8, source: &[u8], p: Address) -> Found
+#[tactic(auto, unfolding(crate::specs::Rows::key_row_by))]
+pub fn key_row(lookups: &[u8], mode: u8, index: u8, source: &[u8], p: Address) -> Option<usize>
     requires { length source.now ≤ 8 }
     ensures { result ≡ key_row_by lookups.now mode index source.now p }
 {
-    if mode == 0 {
-        return implicit_row(lookups, p);
+    match mode {
+        0 => implicit_row(lookups, p),
+        _ => lookup_row(lookups, mode, 2, index, source),
     }
-    lookup_row(lookups, mode, 2, index, source)
 }
 
 // The key that lookup record i names.
+#[tactic(auto, unfolding(meaning::specs::Steps::key_of))]
 pub fn key_of(lookups: &[u8], i: usize) -> usize
     requires { i < records 22 lookups.now }
     ensures { result ≡ key_of lookups.now i }
 {
-    octets::wide(lookups[22 * i])
+    lookups[LOOKUP_LEN * i] as usize
 }
 
 // The first usage record of the key for the type, and for type 3 the command.
-pub fn usage_row(usages: &[u8], key: usize, kind: u8, command: u8) -> Found
+pub fn usage_row(usages: &[u8], key: usize, kind: u8, command: u8) -> Option<usize>
     ensures { result ≡ usage_row usages.now key kind command }
 {
-    let n = usages.len() / 3;
-    let mut i: usize = 0;
-    while i < n {
-        let at = 3 * i;
-        if octets::wide(usages[at]) == key {
-            if fits_at(usages, at + 1, kind, command) {
-                return Found::At(i);
-            }
-        }
-        i += 1;
-    }
-    Found::Nothing
+    (0..usages.len() / USAGE_LEN).find(|&i| {
+        usages[USAGE_LEN * i] as usize == key && fits_at(usages, USAGE_LEN * i + 1, kind, command)
+    })
 }

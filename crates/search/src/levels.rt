@@ -3,61 +3,50 @@ ghost use Rattle.std.specs.Prelude.{◌≡◌, ◌+◌, ◌*◌, ◌/◌, ◌%�
 ghost use Rattle.meaning.specs.Records.{records};
 ghost use Rattle.meaning.specs.Steps.{fits, level_row, passes, overrides};
 
-use meaning::Found;
+use modes::Level;
+use records::LEVEL_LEN;
 
-// The type stands at the place, and for type 3 the command after it.
+// The type stands at the place, and for type 3 the command after it. The two stay numbers, apart: so `fits`, `level_row` and `usage_row` take them.
+#[tactic(auto, unfolding(meaning::specs::Steps::fits))]
 pub fn fits_at(table: &[u8], at: usize, kind: u8, command: u8) -> bool
     requires { at + 2 ≤ length table.now }
     ensures { result ≡ fits table.now at kind command }
 {
-    if table[at] != kind {
-        return false;
-    }
-    if kind != 3 {
-        return true;
-    }
-    table[at + 1] == command
+    table[at] == kind && (kind != 3 || table[at + 1] == command)
 }
 
 // The first level record of the type, and for type 3 of the command.
-pub fn level_row(levels: &[u8], kind: u8, command: u8) -> Found
+pub fn level_row(levels: &[u8], kind: u8, command: u8) -> Option<usize>
     ensures { result ≡ level_row levels.now kind command }
 {
-    let n = levels.len() / 5;
-    let mut i: usize = 0;
-    while i < n {
-        if fits_at(levels, 5 * i, kind, command) {
-            return Found::At(i);
-        }
-        i += 1;
-    }
-    Found::Nothing
+    (0..levels.len() / LEVEL_LEN).find(|&i| fits_at(levels, LEVEL_LEN * i, kind, command))
 }
 
 // The level's bit is set.
-fn allowed(set: u8, level: u8) -> bool
-    requires { level < 8 }
-    ensures { result ≡ eqb (set / 2 ^ level % 2) 1 }
+fn allowed(set: u8, level: Level) -> bool
+    requires { level.0 < 8 }
+    ensures { result ≡ eqb (set / 2 ^ level.0 % 2) 1 }
 {
-    (set >> level) % 2 == 1
+    (set >> level.0) % 2 == 1
 }
 
 // Level record i lets the level pass: by its minimum where it has no list, else by its list.
-pub fn passes(levels: &[u8], i: usize, level: u8) -> bool
-    requires { (i < records 5 levels.now) × (level < 8) }
-    ensures { result ≡ passes levels.now i level }
+#[tactic(auto, unfolding(meaning::specs::Steps::passes))]
+pub fn passes(levels: &[u8], i: usize, level: Level) -> bool
+    requires { (i < records 5 levels.now) × (level.0 < 8) }
+    ensures { result ≡ passes levels.now i level.0 }
 {
-    let at = 5 * i;
-    if levels[at + 4] == 0 {
-        return modes::at_least(level, levels[at + 2]);
+    match levels[LEVEL_LEN * i + 4] {
+        0 => level.at_least(Level(levels[LEVEL_LEN * i + 2])),
+        set => allowed(set, level),
     }
-    allowed(levels[at + 4], level)
 }
 
 // Level record i lets devices override its minimum.
+#[tactic(auto, unfolding(meaning::specs::Steps::overrides))]
 pub fn overrides(levels: &[u8], i: usize) -> bool
     requires { i < records 5 levels.now }
     ensures { result ≡ overrides levels.now i }
 {
-    levels[5 * i + 3] == 1
+    levels[LEVEL_LEN * i + 3] == 1
 }

@@ -1,7 +1,8 @@
-// The request of a shape, by the site of the shapes, and its payloads.
-ghost use Rattle.std.specs.Prelude.{◌≤◌};
+// The request of a shape, by the site of the shapes, its payloads, and the header that it asks for.
+ghost use Rattle.std.specs.Prelude.{◌≤◌, length};
 
-use meaning::{Address, Request};
+use meaning::{Address, Header, Request};
+use std::{array, fmt};
 
 const PAN: u16 = 0x4321;
 
@@ -9,116 +10,138 @@ const SHORT: u64 = 5;
 
 const EXTENDED: u64 = 0xacde_4800_0000_0001;
 
+// A key source, of which mode 2 uses the first four octets.
+const KEY_SOURCE: [u8; 8] = [11, 12, 13, 14, 15, 16, 17, 18];
+
+// The numbers of a frame type, a level, a key mode, a destination and a source, as `layout.txt` gives them.
+// The five stay numbers and no enums, since they are printed as such and a request holds the first three so.
+#[derive(Clone, Copy)]
+pub struct Shape {
+    pub kind: u8,
+    pub level: u8,
+    pub keymode: u8,
+    pub to: u8,
+    pub from: u8,
+}
+
+impl Shape {
+    // The shape n of all.
+    pub fn numbered(n: usize) -> Shape {
+        Shape {
+            kind: (n / 384 % 4) as u8,
+            level: (n / 48 % 8) as u8,
+            keymode: (n / 12 % 4) as u8,
+            to: (n / 3 % 4) as u8,
+            from: (n % 3) as u8,
+        }
+    }
+
+    pub fn request(self) -> Request {
+        Request {
+            kind: self.kind,
+            version: u8::from(0 < self.level),
+            pending: self.kind == 2,
+            request: self.kind == 3,
+            sequence: 0x84,
+            destination: destination_of(self.to),
+            srcmode: source_mode_of(self.from),
+            level: self.level,
+            keymode: self.keymode,
+            keysource: KEY_SOURCE,
+            keyindex: self.keymode,
+        }
+    }
+
+    // The open payload of its type.
+    pub fn opens(self) -> &'static [u8]
+        ensures { length result.now ≤ 4 }
+    {
+        match self.kind {
+            0 => &[0x55, 0xcf, 0, 0],
+            3 => &[7],
+            _ => &[],
+        }
+    }
+
+    // How many private octets it has.
+    pub fn private_len(self) -> usize
+        ensures { result ≤ 32 }
+    {
+        if self.kind == 2 {
+            0
+        } else {
+            usize::from(self.level % 8) * 3 + 2
+        }
+    }
+}
+
+impl fmt::Display for Shape {
+    fn fmt<W: fmt::Write>(&self, f: &mut fmt::Formatter<W>) -> fmt::Result {
+        write!(
+            f,
+            "{} {} {} {} {}",
+            self.kind, self.level, self.keymode, self.to, self.from
+        )
+    }
+}
+
 // An address of the site itself; mode 0 has none.
-pub fn own_address(mode: u8) -> Address {
-    if mode == 2 {
-        return Address {
+fn own_address(mode: u8) -> Address {
+    match mode {
+        2 => Address {
             mode,
             pan: PAN,
             address: SHORT,
-        };
-    }
-    if mode == 3 {
-        return Address {
+        },
+        3 => Address {
             mode,
             pan: PAN,
             address: EXTENDED,
-        };
-    }
-    Address {
-        mode: 0,
-        pan: 0,
-        address: 0,
+        },
+        _ => Address::default(),
     }
 }
 
 // The destination of a shape: none, own short, own extended, or everybody.
 fn destination_of(shape: u8) -> Address {
-    if shape == 1 {
-        return own_address(2);
-    }
-    if shape == 2 {
-        return own_address(3);
-    }
-    if shape == 3 {
-        return Address {
+    match shape {
+        1 => own_address(2),
+        2 => own_address(3),
+        3 => Address {
             mode: 2,
             pan: 0xffff,
             address: 0xffff,
-        };
+        },
+        _ => own_address(0),
     }
-    own_address(0)
 }
 
 fn source_mode_of(shape: u8) -> u8 {
-    if shape == 1 {
-        return 2;
+    match shape {
+        1 => 2,
+        2 => 3,
+        _ => 0,
     }
-    if shape == 2 { 3 } else { 0 }
-}
-
-// A key source, of which mode 2 uses the first four octets.
-fn key_source() -> [u8; 8] {
-    [11, 12, 13, 14, 15, 16, 17, 18]
-}
-
-pub fn request_of(kind: u8, level: u8, keymode: u8, to: u8, from: u8) -> Request {
-    let destination = destination_of(to);
-    let keysource = key_source();
-    let srcmode = source_mode_of(from);
-    let mut version: u8 = 0;
-    if 0 < level {
-        version = 1;
-    }
-    Request {
-        kind,
-        version,
-        pending: kind == 2,
-        request: kind == 3,
-        sequence: 0x84,
-        destination,
-        srcmode,
-        level,
-        keymode,
-        keysource,
-        keyindex: keymode,
-    }
-}
-
-// The octets of the open payload of a type.
-pub fn open_len(kind: u8) -> usize
-    ensures { result ≤ 4 }
-{
-    if kind == 0 {
-        return 4;
-    }
-    if kind == 3 { 1 } else { 0 }
-}
-
-// The open payload of a type stands in front.
-pub fn open_payload(kind: u8) -> [u8; 4] {
-    if kind == 0 {
-        return [0x55, 0xcf, 0, 0];
-    }
-    [7, 0, 0, 0]
 }
 
 // The private payload stands in front.
 pub fn private_payload() -> [u8; 128] {
-    let mut text = [0u8; 128];
-    let mut i: usize = 0;
-    while i < 128 {
-        text[i] = (i % 128) as u8;
-        i += 1;
-    }
-    text
+    array::from_fn(|i| i as u8)
 }
 
-pub fn private_len(kind: u8, level: u8) -> usize
-    ensures { result ≤ 32 }
-{
-    if kind == 2 {
-        return 0;
+// The header that a request asks for. The source PAN is left out where both addresses stand and the PANs agree.
+pub fn header_of(q: Request) -> Header {
+    let source = own_address(q.srcmode);
+    let to = q.destination;
+    Header {
+        kind: q.kind,
+        security: u8::from(0 < q.level),
+        pending: u8::from(q.pending),
+        request: u8::from(q.request),
+        compression: u8::from(to.mode != 0 && source.mode != 0 && to.pan == source.pan),
+        version: q.version,
+        sequence: q.sequence,
+        destination: to,
+        source,
     }
-    octets::wide(level % 8) * 3 + 2
 }

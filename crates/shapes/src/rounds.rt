@@ -1,111 +1,113 @@
 // Builds a frame, receives it on the same site, and prints what comes back.
-ghost use Rattle.std.specs.Prelude.{◌≤◌, length};
+ghost use Rattle.std.specs.Prelude.{◌≤◌};
 
-use crate::comparing::header_same;
-use crate::printing::{hex_number, octet_number, same_or_not, size_number};
-use crate::requests::{open_len, open_payload, private_payload};
-use crate::sites::at_most;
-use meaning::{Received, Request};
-use octets::same_from;
+use crate::requests::{Shape, header_of, private_payload};
+use meaning::{Accepted, Refusal, Request};
+use site::SITE_LEN;
 use std::io::{self, Write};
 
-// Prints what came back from receiving.
+// What a frame is built from.
+#[derive(Clone, Copy)]
+struct Asked<'a> {
+    request: Request,
+    opens: &'a [u8],
+    private: &'a [u8],
+}
+
+// Whether two things are the same, in a word.
+fn same_or_not(same: bool) -> &'static str {
+    if same { "same" } else { "other" }
+}
+
+// Prints what came back from receiving; a refusal tells zeros behind its number.
 fn report(
     told: &mut impl Write,
-    q: Request,
-    opens: &[u8],
-    text: &[u8],
+    asked: Asked,
     frame: &[u8],
     out: &[u8],
-    r: Received,
+    answer: Result<Accepted, Refusal>,
 ) -> io::Result<()> {
-    octet_number(told, r.status)?;
-    octet_number(told, r.level)?;
-    octet_number(told, r.keymode)?;
-    size_number(told, r.device)?;
-    size_number(told, r.private)?;
-    let private = at_most(r.private, 127);
-    let start = at_most(r.start, 127);
-    let len = at_most(r.len, 127);
-    let header = r.header;
-    same_or_not(told, header_same(q, header))?;
-    same_or_not(
+    match answer {
+        Ok(a) => {
+            write!(
+                told,
+                "0 {} {} {} {} ",
+                a.level, a.keymode, a.device, a.private
+            )?;
+            let header = a.header == header_of(asked.request);
+            let opens = a.len == asked.opens.len()
+                && octets::same_from(asked.opens, frame, a.start.min(127), a.len.min(127));
+            let private = a.private == asked.private.len() && out.starts_with(asked.private);
+            tell_same(told, header, opens, private)
+        }
+        Err(refusal) => {
+            write!(told, "{} 0 0 0 0 ", u8::from(refusal))?;
+            tell_same(
+                told,
+                false,
+                asked.opens.is_empty(),
+                asked.private.is_empty(),
+            )
+        }
+    }
+}
+
+// Prints whether header, open payload and private payload came back the same.
+fn tell_same(told: &mut impl Write, header: bool, opens: bool, private: bool) -> io::Result<()> {
+    write!(
         told,
-        len == opens.len() && same_from(opens, frame, start, len),
-    )?;
-    same_or_not(
-        told,
-        private == text.len() && same_from(text, out, 0, private),
+        "{} {} {} ",
+        same_or_not(header),
+        same_or_not(opens),
+        same_or_not(private)
     )
 }
 
 // Prints the FCS of a frame.
-fn sum(told: &mut impl Write, frame: &[u8], len: usize) -> io::Result<()>
-    requires { len ≤ 127 }
-{
-    if 2 <= len {
-        hex_number(told, octets::number16(frame, len - 2))?;
+fn sum(told: &mut impl Write, frame: &[u8]) -> io::Result<()> {
+    if let [.., low, high] = frame {
+        write!(told, "{:04x} ", u16::from_le_bytes([*low, *high]))?;
     }
     Ok(())
 }
 
 // Receives a frame and prints what comes back.
-fn back(
-    told: &mut impl Write,
-    site: &mut [u8],
-    q: Request,
-    opens: &[u8],
-    text: &[u8],
-    frame: &[u8],
-) -> io::Result<()> {
+fn back(told: &mut impl Write, site: &mut [u8], asked: Asked, frame: &[u8]) -> io::Result<()> {
     let mut out = [0u8; 127];
-    let r = receiver::receive(site, frame, &mut out);
-    report(told, q, opens, text, frame, &out, r)
+    let answer = receiver::receive(site, frame, &mut out);
+    report(told, asked, frame, &out, answer)
 }
 
 // Builds what is asked for and, where that succeeds, receives it on the same site.
-fn round(
-    told: &mut impl Write,
-    site: &mut [u8],
-    q: Request,
-    opens: &[u8],
-    text: &[u8],
-) -> io::Result<()> {
-    let mut frame = [0u8; 127];
-    let built = builder::build(site, q, opens, text, &mut frame);
-    octet_number(told, built.status)?;
-    size_number(told, built.len)?;
-    let len = at_most(built.len, 127);
-    sum(told, &frame, len)?;
-    if built.status != 0 {
-        return told.write_all(b"\n");
+fn round(told: &mut impl Write, site: &mut [u8], asked: Asked) -> io::Result<()> {
+    let mut buffer = [0u8; 127];
+    match builder::build(site, asked.request, asked.opens, asked.private, &mut buffer) {
+        Ok(n) => {
+            write!(told, "0 {n} ")?;
+            let frame = &buffer[..n.min(127)];
+            sum(told, frame)?;
+            back(told, site, asked, frame)?;
+        }
+        Err(refusal) => write!(told, "{} 0 ", u8::from(refusal))?,
     }
-    back(told, site, q, opens, text, &frame[..len])?;
     told.write_all(b"\n")
 }
 
-// The same on a copy of the site.
-fn fresh_round(
+// The round of a shape with so many private octets, on a copy of the site.
+pub fn round_of(
     told: &mut impl Write,
-    site: &[u8],
-    q: Request,
-    opens: &[u8],
-    text: &[u8],
+    site: &[u8; SITE_LEN],
+    shape: Shape,
+    private: usize,
 ) -> io::Result<()>
-    requires { length site.now ≤ 4096 }
+    requires { private ≤ 128 }
 {
-    let mut own = [0u8; 4096];
-    octets::copy_in(&mut own, 0, site);
-    let end = site.len();
-    round(told, &mut own[..end], q, opens, text)
-}
-
-// The same with so many private octets.
-pub fn round_of(told: &mut impl Write, site: &[u8], q: Request, private: usize) -> io::Result<()>
-    requires { (length site.now ≤ 4096) × (private ≤ 128) }
-{
-    let opens = open_payload(q.kind);
+    let mut own = *site;
     let text = private_payload();
-    let len = open_len(q.kind);
-    fresh_round(told, site, q, &opens[..len], &text[..private])
+    let asked = Asked {
+        request: shape.request(),
+        opens: shape.opens(),
+        private: &text[..private],
+    };
+    round(told, &mut own, asked)
 }

@@ -1,7 +1,12 @@
 // Where the regions of a site lie, its counts, and their rules.
-ghost use Rattle.std.specs.Prelude.{◌≡◌, true, ◌*◌, ◌<◌};
-ghost use Rattle.meaning.specs.Records.{kinds, width_of};
-ghost use Rattle.meaning.specs.Site.{count_of, place_of, layout_right, body};
+ghost use Rattle.std.specs.Prelude.{◌≡◌};
+ghost use Rattle.std.proofs.Common.{arith};
+ghost use Rattle.meaning.specs.Records.{count_right};
+ghost use Rattle.meaning.specs.Site.{count_of, place_of, layout_right};
+ghost use Rattle.meaning.proofs.Sites.{layout-inside, layout-one};
+ghost use Rattle.records.specs.Kinds.{number_of};
+
+use records::{Kind, Layout};
 
 // The header: a count of two octets for each kind, and free octets.
 const HEADER_LEN: usize = 32;
@@ -25,60 +30,53 @@ const HANDLES_AT: usize = USAGES_AT + records::USAGE_LEN * records::USAGE_LIMIT;
 pub const SITE_LEN: usize = HEADER_LEN + records::TABLES_LEN;
 
 // Where the region of a kind starts.
-pub fn place(kind: usize) -> usize
-    requires { kind < kinds }
-    ensures { result ≡ place_of kind }
+#[tactic(auto, unfolding(meaning::specs::Site::place_of, meaning::specs::Records::start_by, meaning::specs::Records::width_of, meaning::specs::Records::limit_of))]
+pub fn place(kind: Kind) -> usize
+    ensures { result ≡ place_of (number_of kind) }
 {
     match kind {
-        records::SETTINGS => SETTINGS_AT,
-        records::DEVICES => DEVICES_AT,
-        records::LEVELS => LEVELS_AT,
-        records::KEYS => KEYS_AT,
-        records::LOOKUPS => LOOKUPS_AT,
-        records::USAGES => USAGES_AT,
-        _ => HANDLES_AT,
+        Kind::Settings => SETTINGS_AT,
+        Kind::Devices => DEVICES_AT,
+        Kind::Levels => LEVELS_AT,
+        Kind::Keys => KEYS_AT,
+        Kind::Lookups => LOOKUPS_AT,
+        Kind::Usages => USAGES_AT,
+        Kind::Handles => HANDLES_AT,
     }
 }
 
-// The count that the header has for a kind.
-pub fn count(site: &[u8], kind: usize) -> u16
-    requires { kind < kinds }
-    ensures { result ≡ count_of site.now kind }
-{
-    octets::number16(site, 2 * kind)
-}
+// The layout of a site: counts stand in the header, each region at a place of its own.
+pub struct Regions;
 
-// The length of a body.
-fn size(site: &[u8], kind: usize) -> u32
-    requires { kind < kinds }
-    ensures { result ≡ width_of kind * count_of site.now kind }
-{
-    records::width(kind) as u32 * (count(site, kind) as u32)
-}
+impl Layout for Regions {
+    ghost right = { layout_right };
 
-// The length is a site's, and the seven counts are in range.
-pub fn layout_right(site: &[u8]) -> bool
-    ensures { result ≡ layout_right site.now }
-{
-    if site.len() != SITE_LEN {
-        return false;
+    ghost count = { count_of };
+
+    ghost place = { λ s k. place_of k };
+
+    ghost inside = { λ s k h l. layout-inside s h k l };
+
+    ghost settled = { λ s h. Prim.omega (arith, layout-one s h) };
+
+    // The length is a site's, and the seven counts are in range.
+    fn right(site: &[u8]) -> bool {
+        site.len() == SITE_LEN && Kind::ALL.iter().all(|kind| count_right(site, *kind))
     }
-    let mut kind: usize = 0;
-    while kind < records::KINDS {
-        if !records::count_right(kind, count(site, kind) as usize) {
-            return false;
-        }
-        kind += 1;
+
+    #[tactic(auto, unfolding(meaning::specs::Site::count_of))]
+    fn count(site: &[u8], kind: Kind) -> u16 {
+        octets::number::<u16>(site, 2 * (kind as usize))
     }
-    true
+
+    fn place(_site: &[u8], kind: Kind) -> usize {
+        place(kind)
+    }
 }
 
-// The records of a kind, where the layout is right.
-pub fn inside<'a>(site: &'a [u8], kind: usize) -> &'a [u8]
-    requires { (layout_right site.now ≡ true) × (kind < kinds) }
-    ensures { result.now ≡ body site.now kind }
+// The count of a kind is in range.
+fn count_right(site: &[u8], kind: Kind) -> bool
+    ensures { result ≡ count_right (number_of kind) (count_of site.now (number_of kind)) }
 {
-    let start = place(kind);
-    let end = start + size(site, kind) as usize;
-    &site[start..end]
+    kind.count_right(Regions::count(site, kind) as usize)
 }

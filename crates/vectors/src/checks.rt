@@ -1,148 +1,84 @@
 // What a record says, tried on the cipher: a block, sealing, opening.
-ghost use Rattle.std.specs.Prelude.{◌≡◌, ◌+◌, ◌≤◌, length};
-ghost use Rattle.meaning.specs.Sbox.{IsSbox};
-ghost use Rattle.meaning.specs.Frame.{tag_len};
+ghost use Rattle.std.specs.Prelude.{◌+◌, ◌≤◌};
 
-use crate::records::{block_of, fill, nonce_of};
-use aes::Schedule;
-use octets::same_from;
+use crate::records::Record;
+use aes::Cipher;
+use ccm::Keyed;
+use modes::Level;
+
+// A record of CCM* whose data and text are no longer than its room for them.
+#[derive(Drop)]
+struct Vector<'a, 'b> {
+    record: &'a Record,
+    keyed: Keyed<'b>,
+    opens: usize,
+    private: usize,
+    ghost fits: { opens + private ≤ 64 },
+}
+
+impl Vector<'_, '_> {
+    // Sealing gives the octets and the tag given.
+    #[tactic(auto, unfolding(meaning::specs::Frame::tag_len))]
+    fn seals(&self) -> bool {
+        let n = self.opens + self.private;
+        let given = &self.record.octets[..];
+        let mut frame: [u8; 64] = self.record.part(64);
+        let tag = self.keyed.seal(&mut frame[..n], self.opens);
+        let m = self.keyed.level.tag_len();
+        frame[..n] == given[128..128 + n] && tag[..m] == given[128 + n..128 + n + m]
+    }
+
+    // Opening gives the verdict given, and the text where that is to accept.
+    #[tactic(auto, unfolding(meaning::specs::Frame::tag_len))]
+    fn unseals(&self, accepted: bool) -> bool {
+        let n = self.opens + self.private + self.keyed.level.tag_len();
+        let given = &self.record.octets[..];
+        let mut scratch = [0; 64];
+        let body = &given[128..128 + n];
+        let right = self
+            .keyed
+            .unseal(body, self.opens, self.private, &mut scratch);
+        right == accepted
+            && (!right
+                || scratch[..self.private]
+                    == given[64 + self.opens..64 + self.opens + self.private])
+    }
+}
 
 // The block's cipher is the one given.
-fn cipher_holds(vector: &[u8]) -> bool {
-    let made = aes::encrypt(block_of(vector, 32), block_of(vector, 64));
-    same_from(&made, vector, 128, 16)
-}
-
-// The octets of a level's tag.
-fn tag_len(level: u8) -> usize
-    ensures { (result ≡ tag_len level) × (result ≤ 16) }
-{
-    modes::tag_len(level)
-}
-
-// Sealing in a buffer of the right length gives the octets and the tag given.
-fn seal_in(
-    t: &[u8; 256],
-    w: &Schedule,
-    level: u8,
-    vector: &[u8],
-    opens: usize,
-    frame: &mut [u8],
-) -> bool
-    requires sbox { IsSbox t.now }
-    requires opens_in_bounds { (opens ≤ length frame.old) × (length frame.old ≤ 64) }
-{
-    fill(frame, vector, 64);
-    let tag = ccm::seal(t, w, nonce_of(vector), level, frame, opens);
-    let n = frame.len();
-    if same_from(frame, vector, 128, n) {
-        return same_from(&tag, vector, 128 + n, tag_len(level));
-    }
-    false
-}
-
-fn seal_holds(
-    t: &[u8; 256],
-    w: &Schedule,
-    level: u8,
-    vector: &[u8],
-    opens: usize,
-    private: usize,
-) -> bool
-    requires sbox { IsSbox t.now }
-    requires private_bound { opens + private ≤ 64 }
-{
-    let mut frame = [0u8; 64];
-    let n = opens + private;
-    seal_in(t, w, level, vector, opens, &mut frame[..n])
-}
-
-// Opening what stands in a buffer of the right length gives the verdict given, and the text where that is to accept.
-fn unseal_in(
-    t: &[u8; 256],
-    w: &Schedule,
-    level: u8,
-    vector: &[u8],
-    opens: usize,
-    private: usize,
-    accepted: bool,
-    body: &mut [u8],
-) -> bool
-    requires sbox { IsSbox t.now }
-    requires private_bound { (opens + private ≤ 64) × (opens + private + tag_len level ≡ length body.old) × (length body.old ≤ 80) }
-{
-    fill(body, vector, 128);
-    let mut scratch = [0u8; 64];
-    let right = ccm::unseal(
-        t,
-        w,
-        nonce_of(vector),
-        level,
-        body,
-        opens,
-        private,
-        &mut scratch,
-    );
-    if right {
-        if accepted {
-            return same_from(&scratch, vector, 64 + opens, private);
-        }
-        return false;
-    }
-    !accepted
-}
-
-fn unseal_holds(
-    t: &[u8; 256],
-    w: &Schedule,
-    level: u8,
-    vector: &[u8],
-    opens: usize,
-    private: usize,
-    accepted: bool,
-) -> bool
-    requires sbox { IsSbox t.now }
-    requires private_bound { opens + private ≤ 64 }
-{
-    let mut body = [0u8; 80];
-    let n = opens + private + tag_len(level);
-    unseal_in(
-        t,
-        w,
-        level,
-        vector,
-        opens,
-        private,
-        accepted,
-        &mut body[..n],
-    )
+fn cipher_holds(record: &Record) -> bool {
+    aes::encrypt(record.key(), record.part(64)) == record.part(128)
 }
 
 // Sealing, where the record is one to accept, and opening hold.
-fn ccm_holds(vector: &[u8], level: u8, opens: usize, private: usize, accepted: bool) -> bool
-    requires { opens + private ≤ 64 }
-{
-    let t = aes::sbox_table();
-    let key = block_of(vector, 32);
-    let w = aes::schedule(&t, &key);
-    if accepted {
-        if !seal_holds(&t, &w, level, vector, opens, private) {
-            return false;
-        }
-    }
-    unseal_holds(&t, &w, level, vector, opens, private, accepted)
-}
-
-// All that a record says holds.
-pub fn record_holds(vector: &[u8]) -> bool {
-    let level = octets::octet(vector, 0);
-    if level == 8 {
-        return cipher_holds(vector);
-    }
-    let opens = octets::wide(octets::octet(vector, 1));
-    let private = octets::wide(octets::octet(vector, 2));
+fn ccm_holds(record: &Record) -> bool {
+    let opens = record.octets[1] as usize;
+    let private = record.octets[2] as usize;
     if 64 < opens + private {
         return false;
     }
-    ccm_holds(vector, level, opens, private, octets::octet(vector, 3) == 1)
+    let cipher = Cipher::new(&record.key());
+    let keyed = Keyed {
+        cipher: &cipher,
+        nonce: record.part(48),
+        level: Level(record.octets[0]),
+    };
+    let vector = Vector {
+        record,
+        keyed,
+        opens,
+        private,
+    };
+    let accepted = record.octets[3] == 1;
+    (!accepted || vector.seals()) && vector.unseals(accepted)
+}
+
+// All that a record says holds.
+pub fn record_holds(record: &Record) -> bool {
+    // Level 8 is a block of AES: so `layout.txt` has it, which `stdin` is written by.
+    if record.octets[0] == 8 {
+        cipher_holds(record)
+    } else {
+        ccm_holds(record)
+    }
 }

@@ -7,41 +7,20 @@ mod records;
 
 use checks::record_holds;
 use reading::read_full;
-use records::fill;
+use records::Record;
 use std::io::{self, Read, Write};
 
-// How a record came out.
-#[derive(Drop)]
-pub enum Outcome {
-    Holds,
-    Differs,
-    End,
-}
-
-// Prints a record's title.
-fn title(out: &mut impl Write, vector: &[u8]) -> io::Result<()> {
-    let mut text = [b' '; 28];
-    fill(&mut text, vector, 4);
-    out.write_all(&text)
-}
-
-// Reads a record, tries it and prints its line.
-fn next(input: &mut impl Read, out: &mut impl Write) -> io::Result<Outcome> {
-    let mut vector = [0u8; 208];
-    if read_full(input, &mut vector)? < 208 {
-        return Ok(Outcome::End);
+// Reads a record, tries it and prints its line: whether it holds, or none at the end of the input.
+fn next(input: &mut impl Read, out: &mut impl Write) -> io::Result<Option<bool>> {
+    let mut octets = [0; 208];
+    if read_full(input, &mut octets)? < 208 {
+        return Ok(None);
     }
-    title(out, &vector)?;
-    if record_holds(&vector) {
-        out.write_all(b"ok\n")?;
-        return Ok(Outcome::Holds);
-    }
-    out.write_all(b"differs\n")?;
-    Ok(Outcome::Differs)
-}
-
-fn total(out: &mut impl Write, held: u64, differed: u64) -> io::Result<()> {
-    writeln!(out, "{held} ok, {differed} differ")
+    let record = Record { octets };
+    out.write_all(record.title())?;
+    let holds = record_holds(&record);
+    out.write_all(if holds { b"ok\n" } else { b"differs\n" })?;
+    Ok(Some(holds))
 }
 
 fn main(rt: HostRuntime) -> io::Result<()> {
@@ -49,20 +28,13 @@ fn main(rt: HostRuntime) -> io::Result<()> {
     let mut out = rt.stdout();
     let mut held: u64 = 0;
     let mut differed: u64 = 0;
-    let mut turns: u64 = 10000;
-    while 0 < turns {
-        turns -= 1;
+    // At most 10,000 records, far more than are published: so an endless input ends too, and no count overflows.
+    for _ in 0..10000u64 {
         match next(&mut input, &mut out)? {
-            Outcome::Holds => {
-                held += 1;
-            }
-            Outcome::Differs => {
-                differed += 1;
-            }
-            Outcome::End => {
-                turns = 0;
-            }
+            Some(true) => held += 1,
+            Some(false) => differed += 1,
+            None => break,
         }
     }
-    total(&mut out, held, differed)
+    writeln!(out, "{held} ok, {differed} differ")
 }

@@ -1,27 +1,26 @@
-// Octets of a record, taken out.
-ghost use Rattle.std.specs.Prelude.{◌+◌, ◌≤◌, length};
+// A record: 208 octets that `layout.txt` describes, and what stands where in them.
+ghost use Rattle.std.specs.Prelude.{◌+◌, ◌≤◌};
 
-// Fills a buffer with the octets of a record from a place on.
-pub fn fill(out: &mut [u8], vector: &[u8], at: usize)
-    requires { at + length out.old ≤ 4096 }
-{
-    let mut i: usize = 0;
-    while i < out.len() {
-        out[i] = octets::octet(vector, at + i);
-        i += 1;
+#[derive(Drop)]
+pub struct Record {
+    pub octets: [u8; 208],
+}
+
+impl Record {
+    // N octets from a place on.
+    pub fn part<const N: usize>(&self, at: usize) -> [u8; N]
+        requires { at + N ≤ 208 }
+    {
+        let mut part = [0; N];
+        part.copy_from_slice(&self.octets[at..at + N]);
+        part
     }
-}
 
-pub fn nonce_of(vector: &[u8]) -> [u8; 13] {
-    let mut nonce = [0u8; 13];
-    fill(&mut nonce, vector, 48);
-    nonce
-}
+    pub fn title(&self) -> &[u8] {
+        &self.octets[4..32]
+    }
 
-pub fn block_of(vector: &[u8], at: usize) -> [u8; 16]
-    requires { at + 16 ≤ 4096 }
-{
-    let mut block = [0u8; 16];
-    fill(&mut block, vector, at);
-    block
+    pub fn key(&self) -> [u8; 16] {
+        self.part(32)
+    }
 }

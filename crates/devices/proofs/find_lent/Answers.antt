@@ -4,4 +4,4 @@ use Rattle.devices.proofs.find_lent.Goals as goal
 
 pub returns : goal.returns
 unfolding devices_lent
-returns c = rw (← c.decoded-devices.ensures) c.find.ensures
+returns c = rw (← c.decoded.ensures) c.find.ensures

@@ -1,32 +1,12 @@
--- `wirdhalef_open_payload` meets its contract: by the cuts that were read. Assumes nothing.
-use native.Mathlib.Omega.{arith}
-use borrow.Author.Tests.{not-true, not-false}
-use lib.ListN.{length-take}
-use Rattle.meaning.specs.Fcs.{inner}
-use Rattle.meaning.proofs.Tests.{tests, calls}
-use Rattle.meaning.proofs.Lengths.{bounded}
-use Rattle.export.specs.Boundary.{open_place}
-use Rattle.export.proofs.Places.{placed}
+-- What is answered of a frame that is divided, and of one that is not.
+use Rattle.export.proofs.Places.{place-none, place-some, some-bounded}
 use Rattle.export.proofs.wirdhalef_open_payload.Goals as goal
 
-pub returns-then-frame-lt5 : goal.returns-then-frame-lt5
-unfolding open_place inner
-returns-then-frame-lt5 c = search tests
-
-pub returns-then-frame-gt127 : goal.returns-then-frame-gt127
-unfolding open_place inner
-returns-then-frame-gt127 c = search tests
-
-pub slice_bounds-body-end : goal.slice_bounds-body-end
-slice_bounds-body-end c = simp length-take (omega arith)
-
-pub returns-then-not-divides : goal.returns-then-not-divides
-unfolding open_place inner
-returns-then-not-divides c = search (tests, calls, not-true) depth 9
-
 pub place_in-requires : goal.place_in-requires
-place_in-requires c = bounded _ _ c.cuts.ensures
+place_in-requires c = some-bounded _ _ _ c.divided.ensures c.in-Some.is
 
-pub returns : goal.returns
-unfolding open_place inner
-returns c = search (tests, calls, not-false, placed) depth 9
+pub returns-in-Some : goal.returns-in-Some
+returns-in-Some c = place-some _ _ _ _ c.divided.ensures c.in-Some.is c.place_in.ensures
+
+pub returns-in-None : goal.returns-in-None
+returns-in-None c = place-none _ _ c.divided.ensures c.in-None.is

@@ -1,37 +1,33 @@
 -- `frame_log::run` prints what is to be printed of the octets at hand and of those left. Assumes nothing.
-use Rattle.std.proofs.Common.{arith, sym, ◌∙◌}
-use Rattle.frame_log.proofs.Whole.{along-none}
-use Rattle.frame_log.proofs.Rounds.{on-ok, round-read, round-wrote, round-ended}
+use Rattle.std.proofs.Common.{arith, ◌≤◌, ap, ◌∙◌, length}
+use Rattle.std.proofs.lemmas.Result.{on_ok_weaker}
+use Rattle.frame_log.proofs.Rounds.{round-read, round-wrote, round-ended}
 use Rattle.frame_log.proofs.run.Goals as goal
 
-pub loop-p-init : goal.loop-p-init
-loop-p-init g c = record {
-  valid = c.requires.0;
-  order = omega arith;
-  fit = omega arith;
-  end = λ h. h;
-  goes = along-none _ _ _ _;
-}
-
-pub loop-p-preserved : goal.loop-p-preserved
-loop-p-preserved g c =
-    let l = c.loop-p.invariant in
-    let m = c.in_ok-p.ensures in
+pub loop-text-preserved : goal.loop-text-preserved
+loop-text-preserved g c =
+    let l = c.loop-text.invariant in
+    let m = c.in_ok-fill.ensures in
     let b = c.batch-b.ensures in
+    let s = c.skip.ensures in
     record {
-      valid = l.valid ∙ sym b.batched.rule;
-      order = b.batched.fit;
-      fit = m.fed.fit;
-      end = λ h. m.end (l.end h);
-      goes = round-wrote _ _ _ _ _ _ _ _ _ _ _ _ _ _ _ b.batched _ _ _ (round-read _ _ _ _ _ _ _ _ _ _ _ _ _ _ _ l.goes m.fed m.octets) c.in_ok-write_all.ensures.bytes b.paced;
+      long = ap length s.octets ∙ m.long ∙ l.long;
+      end = λ h q. m.end (l.end h) (omega (arith, q, s.have, ap length s.octets));
+      goes =
+          rw s.hand
+          (round-wrote _ _ _ _ _ _ _ _ _ _ _ _ _ _ (rw c.hand.ensures at b.batched) _ _ _ (round-read _ _ _ _ _ _ _ _ _ _ _ _ l.goes m.fed m.octets)
+          (rw c.written.ensures at c.in_ok-write_all.ensures.bytes) b.paced);
     }
 
-pub returns-then-b-start : goal.returns-then-b-start
-returns-then-b-start g c = λ end long.
-    let l = c.loop-p.invariant in
-    let m = c.in_ok-p.ensures in
+pub returns-then-b-eq0 : goal.returns-then-b-eq0
+returns-then-b-eq0 g c = λ end long.
+    let l = c.loop-text.invariant in
+    let m = c.in_ok-fill.ensures in
     let b = c.batch-b.ensures in
-    on-ok c.write_all-then-b-start.result
-    (round-ended _ _ _ _ _ _ _ _ _ _ _ _ _ _ _ b.batched _ _ _ (round-read _ _ _ _ _ _ _ _ _ _ _ _ _ _ _ l.goes m.fed m.octets) c.in_ok-write_all.ensures.bytes
-    (omega arith) (omega arith) _ _ c.finish-e.ensures m.fed.fit (m.end (l.end end)) m.enough (omega arith) b.short _ (omega arith) _)
-    c.write_all-then-b-start.ensures.bytes
+    let room : 80 ≤ length c.new-lines.result.out.now = omega (arith, ap length c.new-lines.ensures.octets) in
+    on_ok_weaker c.write_all-then-b-eq0.result
+    (round-ended _ _ _ _ _ _ _ _ _ _ _ _ _ _ (rw c.hand.ensures at b.batched) _ _ _ (round-read _ _ _ _ _ _ _ _ _ _ _ _ l.goes m.fed m.octets)
+    (rw c.written.ensures at c.in_ok-write_all.ensures.bytes)
+    c.if-b-eq0.true room _ _ (rw c.hand-then-b-eq0.ensures at c.finish.ensures) c.fill.new.self.buf.now c.fill.new.self.have (m.end (l.end end)) m.enough
+    (omega (arith, l.long, m.long)) (rw c.hand.ensures at b.short) _ (omega arith) _)
+    (rw c.written-then-b-eq0.ensures at c.write_all-then-b-eq0.ensures.bytes)

@@ -1,11 +1,6 @@
--- `load::fill` meets its contract: the records of the kinds below `kind` stand, and zeros elsewhere. Assumes nothing.
-use Prim.Native.Nat.{◌-◌}
-use Rattle.meaning.specs.Records.{kinds}
+-- `load::fill` meets its contract: the records of the kinds before this one stand, and zeros elsewhere. Assumes nothing.
 use Rattle.load.proofs.Loads.{Standing}
 use Rattle.load.proofs.fill.Given as goal
 
 abbrev pub invariant-loop-kind : goal.invariant-loop-kind
-invariant-loop-kind l = Standing l.file l.kind l.site
-
-abbrev pub decreases-loop-kind : goal.decreases-loop-kind
-decreases-loop-kind l = kinds - l.kind
+invariant-loop-kind l = Standing l.file.octets.now l.kind-index l.site

@@ -1,14 +1,15 @@
 -- `load::put_table` meets its contract: a count and a body are stored. Assumes nothing.
-use native.Mathlib.Omega.{arith}
+use Rattle.std.proofs.Common.{arith}
 use Rattle.meaning.proofs.Regions.{header-inside}
+use Rattle.records.proofs.Laws.{kind-low, kind-tag}
 use Rattle.load.proofs.Loads.{table-fits, table-put}
 use Rattle.load.proofs.put_table.Goals as goal
 
-pub put16-requires : goal.put16-requires
-put16-requires c = omega (arith, header-inside)
+pub put-requires : goal.put-requires
+put-requires c = omega (arith, header-inside, kind-tag c.args.kind, kind-low c.args.kind)
 
 pub copy_in-requires : goal.copy_in-requires
-copy_in-requires c = search table-fits
+copy_in-requires c = search (table-fits, kind-low)
 
 pub returns : goal.returns
-returns c = search table-put
+returns c = search (table-put, kind-low, kind-tag)

@@ -1,27 +1,21 @@
--- `same_from` meets its contract. The loop's invariant: the octets before i agree. Assumes nothing.
-use mathlib.Core.Path.{◌≡◌, refl, sym, ◌∙◌}
-use mathlib.Core.Bool.{true, false, not}
-use Prim.Native.Nat.{ℕ}
-use lib.Dec.{eqb}
-use borrow.Author.Tests.{eq-eqb, ne_eqb}
-use Rattle.meaning.proofs.Tests.{not-on, not-off}
-use Rattle.meaning.proofs.Scan.{kept-none, every-fails, every-more, every-end}
+-- `same_from` meets its contract: `all` tests the places below n, one after the other. Assumes nothing.
+use Rattle.std.proofs.Common.{◌≡◌, refl, ap, ◌∙◌, rules, true, false, Bool, ℕ, zero, suc, ◌+◌, ◌&&◌, get_or, eqb, not, add-one, arith}
+use borrow.Author.Tests.{tests}
+use Rattle.std.specs.List.{list_all, range_with_len}
+use Rattle.std.proofs.lemmas.Iterator.{YieldsList-from_range}
+use Rattle.std.proofs.lemmas.Iterator.Search.{all_from_yields_List}
+use Rattle.meaning.specs.Octets.{pick, scan}
 use Rattle.octets.proofs.same_from.Goals as goal
 
-differs : (a b u v : ℕ) → u ≡ a → v ≡ b → (u ≡ v → ⊥) → not (eqb a b) ≡ true
-differs a b u v d e h = not-on (eqb a b) (ne_eqb a b (λ z. h (d ∙ z ∙ sym e)))
+one : (t : Bool) {r s : Bool} → r ≡ s → (t && r) ≡ pick (not t) false s
+one true e = e
+one false e = refl
 
-agrees : (a b u v : ℕ) → u ≡ a → v ≡ b → u ≡ v → not (eqb a b) ≡ false
-agrees a b u v d e h = not-off (eqb a b) (eq-eqb a b (sym d ∙ h ∙ e))
-
-pub loop-i-init : goal.loop-i-init
-loop-i-init c = kept-none
-
-pub returns-then-octet : goal.returns-then-octet
-returns-then-octet c = every-fails _ _ _ _ refl c.loop-i.invariant c.loop-i-test.true (differs _ _ _ _ c.octet.ensures c.octet-in-loop-i.ensures c.if-octet.true)
-
-pub loop-i-preserved : goal.loop-i-preserved
-loop-i-preserved c = every-more _ _ _ _ refl c.loop-i.invariant c.loop-i-test.true (agrees _ _ _ _ c.octet.ensures c.octet-in-loop-i.ensures c.if-octet.false)
+below : (p : ℕ → Bool) (n i : ℕ) → list_all p (range_with_len i n) ≡ scan (λ k. not (p k)) (λ k. false) true n i
+below p zero i = refl
+below p (suc n) i = one (p i) (ap (λ (j : ℕ). list_all p (range_with_len j n)) (add-one i) ∙ below p n (suc i))
 
 pub returns : goal.returns
-returns c = every-end _ _ _ c.loop-i.invariant c.loop-i-test.false
+returns c = let a = c.args in
+    let p : ℕ → Bool = λ k. eqb (get_or a.a.now k 0) (get_or a.b.now (a.at + k) 0) in
+    all_from_yields_List p _ _ c.all.result c.all.ensures.ran (YieldsList-from_range 0 a.n a.n refl (omega arith)) (λ x b q k. search (rules, tests)) ∙ below p a.n 0

@@ -1,29 +1,17 @@
--- 14: a counter that is spent or low is refused; another goes on to the tag. Assumes nothing.
-use Rattle.receiver.proofs.Commits.{last-counter, low-counter, counter-below, plain-body, inner-short, room-long, by-counted}
-use borrow.Author.Rules.{rules}
+-- 14: a counter that is spent or low; 15: by the tag's verdict, the refusal or the committed frame. Assumes nothing.
+use Rattle.receiver.proofs.Commits.{last-counter, low-counter, is-wrong, is-right}
 use Rattle.receiver.proofs.settle.Goals as goal
+use Rattle.receiver.proofs.settle.Goals.{then-counter-via-then-counter, then-counter-via-else-counter+then-counter-device_counter}
 
-pub returns-then-counter : goal.returns-then-counter
-returns-then-counter c = search last-counter depth 9
+pub returns-then-counter-clause-outcome : goal.returns-then-counter-clause-outcome
+returns-then-counter-clause-outcome c =
+    elim c.then-counter.branch [
+      | then-counter-via-then-counter w ↦ search last-counter depth 12
+      | then-counter-via-else-counter+then-counter-device_counter w ↦ search low-counter depth 12
+    ]
 
-pub returns-then-counter-device_counter : goal.returns-then-counter-device_counter
-returns-then-counter-device_counter c = low-counter _ _ _ _ _ _ _ _ _ _ c.requires.site_value c.requires.device_bound c.body_of-body.ensures c.counter_in-counter.ensures c.device_counter.ensures c.if-counter-device_counter.true c.refused-then-counter-device_counter.ensures
-
-pub unlock-requires : goal.unlock-requires
-unlock-requires c =
-    record {
-      c_value = search rules;
-      sbox = search rules;
-      site_value = search rules;
-      key_bound = search rules;
-      device_bound = search rules;
-      counter_bound = search counter-below;
-      body_in_bounds = search plain-body;
-      body_len_bound = search inner-short;
-      in_bounds = search rules;
-      in_bounds_2 = search room-long;
-    }
+pub returns-then-not-right : goal.returns-then-not-right
+returns-then-not-right c = search is-wrong depth 24
 
 pub returns : goal.returns
-returns c = by-counted _ _ _ _ _ _ _ _ _ _ c.requires.site_value c.requires.device_bound c.body_of-body.ensures c.counter_in-counter.ensures c.if-counter.false
-    c.device_counter.ensures c.if-counter-device_counter.false c.unlock.ensures
+returns c = search is-right depth 24

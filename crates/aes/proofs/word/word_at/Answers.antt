@@ -7,4 +7,4 @@ use Rattle.aes.proofs.word.word_at.Goals as goal
 
 pub returns : goal.returns
 returns c = let a = c.args in
-    ap (octs 4) c.whole32.ensures ∙ octs-le_at a.s.now (λ i. omega (arith, c.type_inv.s i)) 4 a.at (omega arith)
+    ap (octs 4) c.whole.ensures ∙ octs-le_at a.s.now (λ i. omega (arith, c.type_inv.s i)) 4 a.at (omega arith)

@@ -1,15 +1,9 @@
--- `builder::decision::key_row` meets its contract, by the key mode. Assumes nothing.
-use Rattle.builder.proofs.Decisions.{part-few, part-source, row-default, row-given}
+-- `builder::decision::key_row` meets its contract: the search by the key source compared. Assumes nothing.
+use Rattle.search.proofs.Laws.{key_row-by, key_source-length}
 use Rattle.builder.proofs.decision.key_row.Goals as goal
 
 pub key_row-requires : goal.key_row-requires
-key_row-requires c = search part-few
-
-pub returns-then-q-eq1 : goal.returns-then-q-eq1
-returns-then-q-eq1 c = search row-default
-
-pub key_row-requires-2 : goal.key_row-requires-2
-key_row-requires-2 c = search part-source
+key_row-requires c = rw c.key_source.ensures (key_source-length _ _ _)
 
 pub returns : goal.returns
-returns c = search row-given
+returns c = rw (key_row-by, ← c.key_source.ensures, ← c.fitted.ensures, ← c.peer_of-peer.ensures) c.key_row.ensures

@@ -2,11 +2,11 @@
 use Rattle.builder.proofs.Puts.{address-short, address-extended, address-none}
 use Rattle.builder.proofs.put.put_address.Goals as goal
 
-pub returns-then-a-eq2 : goal.returns-then-a-eq2
-returns-then-a-eq2 c = search address-short
+pub returns-in-2 : goal.returns-in-2
+returns-in-2 c = search address-short
 
-pub returns-then-a-eq3 : goal.returns-then-a-eq3
-returns-then-a-eq3 c = search address-extended
+pub returns-in-3 : goal.returns-in-3
+returns-in-3 c = search address-extended
 
-pub returns : goal.returns
-returns c = search address-none
+pub returns-in_default : goal.returns-in_default
+returns-in_default c = search address-none

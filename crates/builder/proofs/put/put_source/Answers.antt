@@ -5,5 +5,5 @@ use Rattle.builder.proofs.put.put_source.Goals as goal
 pub returns-then-h-eq1 : goal.returns-then-h-eq1
 returns-then-h-eq1 c = search source-short
 
-pub returns : goal.returns
-returns c = search source-whole
+pub returns-else-h-eq1 : goal.returns-else-h-eq1
+returns-else-h-eq1 c = search source-whole

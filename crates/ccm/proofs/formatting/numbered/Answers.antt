@@ -1,12 +1,9 @@
--- `ccm::numbered` meets its contract: the nonce is its thirteen octets. Assumes nothing.
-use mathlib.Core.Path.{ap}
-use mathlib.Core.List.{List, ◌∷◌, ◌++◌}
-use Prim.Native.Nat.{ℕ}
-use Rattle.meaning.specs.Ccm.{size16}
-use Rattle.ccm.proofs.Blocks.{thirteen}
-use borrow.Author.Rules.{rules}
+-- `ccm::numbered` meets its contract: flags, nonce and number stand one after the other. Assumes nothing.
+use Rattle.std.proofs.Common.{ap, List, ℕ, ◌∷◌, ◌∙◌, rules}
+use Rattle.ccm.proofs.Blocks.{block-put}
 use Rattle.ccm.proofs.formatting.numbered.Goals as goal
 
 pub returns : goal.returns
-unfolding size16
-returns c = ap (λ (s : List ℕ). c.args.flag ∷ (s ++ size16 c.args.n)) (thirteen c.args.nonce (search rules))
+returns c = let f = c.args.flag in
+    ap (λ (s : List ℕ). f ∷ s)
+    (block-put f c.args.nonce _ _ _ (search rules) c.copy_from_slice.ensures.after (c.copy_from_slice-2.ensures.after ∙ c.size16.ensures))

@@ -1,23 +1,28 @@
 -- `ccm::chain` meets its contract: the chain over the blocks that are left, from the value so far, is the whole chain. Assumes nothing.
-use Prim.Native.Nat.{◌<◌}
-use native.Mathlib.Omega.{arith}
-use lib.ListN.{length}
-use Rattle.ccm.specs.Tags.{led}
-use Rattle.ccm.proofs.Blocks.{length-led}
-use Rattle.ccm.proofs.Chains.{chained-none, chained-more, chained-end}
+use Rattle.std.proofs.Common.{sym, ap, ◌∙◌, ℕ, List, length, rules}
+use Prim.Native.Nat.{min}
+use Rattle.std.specs.Slice.Iter.{chunks_rest}
+use Rattle.aes.specs.Schedule.{cipher_by}
+use Rattle.ccm.specs.Tags.{chain_over}
+use Rattle.ccm.proofs.Chains.{chain-none, chain-more}
 use Rattle.ccm.proofs.mac.chain.Goals as goal
 
-pub loop-at-init : goal.loop-at-init
-loop-at-init c = let a = c.args in
-    let l : length (led a.sized a.s.now) < 65538 = omega (arith, length-led a.sized a.s.now) in
-    (c.led_len-n.ensures, omega (arith, c.led_len-n.ensures), omega arith, chained-none _ _ _)
-
-pub loop-at-preserved : goal.loop-at-preserved
-loop-at-preserved c = let inv = c.loop-at.invariant in
-    let l = inv.0 in
-    (l, inv.1, omega arith, chained-more _ _ _ c.loop-at.at c.loop-at.y _ _ inv.3 (omega arith) c.block_sum-b.ensures c.encrypt_with-z.ensures)
+pub loop-block-preserved : goal.loop-block-preserved
+loop-block-preserved c = let at = c.loop-block in
+    let E = cipher_by c.args.cipher.now.schedule in
+    let left = chunks_rest at.block-iterator in
+    let rest = chunks_rest c.next.new.self in
+    let block = c.in-Some.block.now in
+    let step = c.in-Some.ensures.steps in
+    record {
+      size = step.0 ∙ at.invariant.size;
+      rest =
+          ap (λ (y : List ℕ). chain_over E y rest) (c.encrypt-y.ensures ∙ ap E c.add.ensures)
+          ∙ sym
+          (chain-more E at.y left block rest (search rules) step.1.0 (step.1.1 ∙ ap (λ (n : ℕ). min n (length left)) at.invariant.size) step.1.2)
+          ∙ at.invariant.rest;
+    }
 
 pub returns : goal.returns
-returns c = let inv = c.loop-at.invariant in
-    let l = inv.0 in
-    chained-end _ _ _ c.loop-at.at c.loop-at.y inv.3 (omega arith)
+returns c = let at = c.loop-block in
+    chain-none (cipher_by c.args.cipher.now.schedule) at.y (chunks_rest at.block-iterator) c.in-None.ensures.steps.1.0 ∙ at.invariant.rest

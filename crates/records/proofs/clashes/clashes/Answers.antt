@@ -1,23 +1,12 @@
--- `records::clashes` meets its contract: no device before j clashes. Assumes nothing.
-use native.Mathlib.Omega.{arith}
-use Prim.Native.Nat.{◌-◌}
-use mathlib.Core.Bool.{true, false}
+-- `records::clashes` meets its contract: the chain asks of each device before. Assumes nothing.
+use Rattle.std.proofs.Common.{rules, refl, ◌∙◌}
 use Rattle.meaning.specs.Records.{device_at, clash}
+use Rattle.records.proofs.Chains.{some-any}
 use Rattle.records.specs.Rules.{clashes_at}
-use Rattle.meaning.proofs.Scan.{Passed, passed-none, some-holds, some-more, some-end}
-use Rattle.records.proofs.Laws.{by-numbers}
 use Rattle.records.proofs.clashes.clashes.Goals as goal
-
-pub loop-j-init : goal.loop-j-init
-loop-j-init c = passed-none
-
-pub returns-then-clash : goal.returns-then-clash
-unfolding clashes_at
-returns-then-clash c = search (some-holds, by-numbers)
-
-pub loop-j-preserved : goal.loop-j-preserved
-loop-j-preserved c = search (some-more, by-numbers)
 
 pub returns : goal.returns
 unfolding clashes_at
-returns c = search some-end
+returns c =
+    some-any _ _ _ (λ j. clash c.device_at-device.result (device_at c.args.b.now j)) _ refl c.any.ensures.ran (λ x q k. search rules) (λ x q k. search rules)
+    ∙ rw c.device_at-device.ensures refl

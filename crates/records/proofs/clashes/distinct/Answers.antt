@@ -1,22 +1,9 @@
--- `records::distinct` meets its contract: no device before i clashes with one before it. Assumes nothing.
-use native.Mathlib.Omega.{arith}
-use Prim.Native.Nat.{◌-◌}
-use mathlib.Core.Bool.{true, false}
+-- `records::distinct` meets its contract: the chain asks the definition's question of each device. Assumes nothing.
+use Rattle.std.proofs.Common.{rules, ap, not, refl}
+use Rattle.records.proofs.Chains.{some-any}
 use Rattle.records.specs.Rules.{clashes_at, distinct_at}
-use Rattle.meaning.proofs.Scan.{Passed, passed-none, some-holds, some-more, some-end}
-use Rattle.records.proofs.Laws.{not-holds, not-fails}
 use Rattle.records.proofs.clashes.distinct.Goals as goal
-
-pub loop-i-init : goal.loop-i-init
-loop-i-init c = passed-none
-
-pub returns-then-clashes : goal.returns-then-clashes
-unfolding distinct_at
-returns-then-clashes c = search (not-holds, some-holds)
-
-pub loop-i-preserved : goal.loop-i-preserved
-loop-i-preserved c = search some-more
 
 pub returns : goal.returns
 unfolding distinct_at
-returns c = search (not-fails, some-end)
+returns c = ap not (some-any _ _ _ (clashes_at c.args.b.now) c.args.n refl c.any.ensures.ran (λ x q k. search rules) (λ x q k. search rules))

@@ -1,17 +1,12 @@
 -- `search::implicit_row` meets its contract: the octets lent are the peer's. Assumes nothing.
 use mathlib.Core.Path.{ap, sym, ◌∙◌}
-use Prim.Native.Nat.{◌+◌}
 use native.Mathlib.Omega.{arith}
 use lib.Seq.{length-take-le}
 use Rattle.meaning.specs.Steps.{lookup_row}
-use Rattle.meaning.proofs.Tests.{tests, off-eq}
+use Rattle.meaning.proofs.Tests.{off-eq}
 use Rattle.search.specs.Rows.{implicit_row}
 use Rattle.search.proofs.Laws.{lent}
 use Rattle.search.proofs.keys.implicit_row.Goals as goal
-
-pub returns-then-mode-eq0 : goal.returns-then-mode-eq0
-unfolding implicit_row
-returns-then-mode-eq0 c = search tests
 
 pub overflow_add-n : goal.overflow_add-n
 overflow_add-n c = omega (arith, (lent _ _ _ c.peer_octets-octets.ensures c.address_len-n.ensures).few)
@@ -21,9 +16,6 @@ slice_bounds-octets-end c = omega (arith, (lent _ _ _ c.peer_octets-octets.ensur
 
 pub slice_bounds-lookup_row-end : goal.slice_bounds-lookup_row-end
 slice_bounds-lookup_row-end c = sym (length-take-le _ _ (omega (arith, (lent _ _ _ c.peer_octets-octets.ensures c.address_len-n.ensures).room)))
-
-pub lookup_row-requires : goal.lookup_row-requires
-lookup_row-requires c = omega (arith, length-take-le (2 + c.address_len-n.result) c.peer_octets-octets.result (omega (arith, (lent _ _ _ c.peer_octets-octets.ensures c.address_len-n.ensures).room)), (lent _ _ _ c.peer_octets-octets.ensures c.address_len-n.ensures).few)
 
 pub returns : goal.returns
 unfolding implicit_row

@@ -2,27 +2,17 @@
 -- the inner loop's: the octets passed agree. Assumes nothing.
 use mathlib.Core.Path.{ap}
 use mathlib.Core.Bool.{not}
-use native.Mathlib.Omega.{arith}
 use borrow.Author.Tests.{eq-eqb, ne_eqb}
 use Rattle.meaning.specs.Octets.{stands}
 use Rattle.meaning.specs.Steps.{lookup_row}
-use Rattle.meaning.proofs.Scan.{passed-none, passed-more, passed-hit, passed-end, is-none}
-use Rattle.search.proofs.Laws.{at-hit, lookup-fits, lookup-head-fails, lookup-rest-fails}
+use Rattle.meaning.proofs.Scan.{passed-more, passed-hit, passed-end, is-hit, is-none}
+use Rattle.search.proofs.Laws.{lookup-fits, lookup-head-fails, lookup-rest-fails}
 use Rattle.search.proofs.keys.lookup_row.Goals as goal
 use Rattle.search.proofs.keys.lookup_row.Goals.{then-leads+else-m-j+then-lookups-from, else-leads}
-
-pub records-init : goal.records-init
-records-init c = passed-none
 
 pub returns-then-n-i : goal.returns-then-n-i
 unfolding lookup_row
 returns-then-n-i c = search is-none
-
-pub leads-requires : goal.leads-requires
-leads-requires c = (omega arith, omega arith)
-
-pub loop-j-init : goal.loop-j-init
-loop-j-init c = passed-none
 
 pub loop-j-preserved : goal.loop-j-preserved
 loop-j-preserved c = passed-more c.loop-j.invariant c.if-m-j.false (ap not (eq-eqb _ _ c.if-lookups-from.false))
@@ -37,5 +27,5 @@ records-preserved c = passed-more c.records.invariant c.if-n-i.false
 
 pub returns : goal.returns
 unfolding lookup_row stands
-returns c = at-hit _ _ _ c.records.invariant c.if-n-i.false
+returns c = is-hit _ _ _ _ _ c.records.invariant c.if-n-i.false
     (lookup-fits _ _ _ _ _ _ _ c.leads.ensures c.if-leads.true (passed-end c.loop-j.invariant c.if-m-j.true))

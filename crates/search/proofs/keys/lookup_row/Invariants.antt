@@ -1,11 +1,11 @@
 -- `search::lookup_row` meets its contract, for every number of octets compared. The outer loop's invariant: the records passed do not fit;
 -- the inner loop's: the octets passed agree. Assumes nothing.
+use Rattle.std.specs.Prelude.{Some, None}
 use mathlib.Core.Bool.{true, false, not}
 use Prim.Native.Nat.{◌+◌, ◌-◌}
 use lib.ListN.{get_or}
 use lib.Dec.{eqb}
 use Rattle.meaning.specs.Steps.{fits_lookup}
-use Rattle.meaning.specs.declared.Found.TheVariants.{At, Nothing}
 use Rattle.meaning.proofs.Scan.{Passed}
 use Rattle.search.proofs.keys.lookup_row.Given as goal
 
@@ -16,7 +16,7 @@ abbrev pub decreases-loop-j : goal.decreases-loop-j
 decreases-loop-j l = l.m - l.j
 
 abbrev pub invariant-records : goal.invariant-records
-invariant-records l = Passed (fits_lookup l.lookups l.mode l.at l.lead l.wanted) At Nothing l.n l.i
+invariant-records l = Passed (fits_lookup l.lookups l.mode l.at l.lead l.wanted) Some None l.n l.i
 
 abbrev pub decreases-records : goal.decreases-records
 decreases-records l = l.n - l.i

@@ -1,7 +1,0 @@
--- `aes::sub` meets its contract: that the table is the S-box, at one octet. Assumes nothing.
-use Rattle.meaning.specs.Sbox.{IsSbox}
-use Rattle.aes.proofs.sbox.sub.Goals as goal
-
-pub returns : goal.returns
-unfolding IsSbox
-returns c = c.requires c.args.x c.ranges.x.fits

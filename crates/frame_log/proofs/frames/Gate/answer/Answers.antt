@@ -1,0 +1,15 @@
+-- `Gate::answer` meets its contract: by whether there is a site that keeps its rules. Assumes nothing.
+use Rattle.std.proofs.lemmas.Result.{err_from_is_err_and}
+use Rattle.frame_log.proofs.Replies.{answered-ok, answered-err, answered-none}
+use Rattle.frame_log.proofs.frames.Gate.answer.Goals as goal
+
+pub returns-in_default : goal.returns-in_default
+returns-in_default c = rw c.in_default.is (answered-none c.args.frame.now c.args.self.now.out)
+
+pub returns-in_err-answer : goal.returns-in_err-answer
+returns-in_err-answer c =
+    let p = err_from_is_err_and c.from_residual.result c.from_residual.ensures.1 in
+    rw (p.1, p.2, c.in-Some.is) (answered-err _ _ _ _ _ c.in-Some.site.holds _ c.in_err-answer.ensures.outcome)
+
+pub returns : goal.returns
+returns c = rw c.in-Some.is (answered-ok _ _ _ _ _ c.in-Some.site.holds _ c.in_ok-answer.ensures.outcome)

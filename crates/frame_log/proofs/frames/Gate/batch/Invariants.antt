@@ -1,0 +1,13 @@
+-- `Gate::batch` meets its contract. The loop's invariant: what was to be printed is the text so far and what is to be printed of the rest.
+use Prim.Native.Nat.{◌-◌}
+use lib.ListN.{length}
+use Rattle.frame_log.specs.Buffers.{kept}
+use Rattle.frame_log.proofs.Batches.{Going}
+use Rattle.frame_log.proofs.frames.Gate.batch.Given as goal
+
+abbrev pub invariant-loop-n : goal.invariant-loop-n
+invariant-loop-n l =
+    Going (kept l.initial.self.site) l.initial.self.out l.first l.hand l.initial.text.out.now (kept l.self.site) l.self.out l.text.out.now l.number l.taken l.text.at
+
+abbrev pub decreases-loop-n : goal.decreases-loop-n
+decreases-loop-n l = length l.hand - l.taken

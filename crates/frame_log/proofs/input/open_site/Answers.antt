@@ -1,6 +1,0 @@
--- `frame_log::open_site` meets its contract, by what `load` ensures of zeros. Assumes nothing.
-use Rattle.frame_log.proofs.Openings.{opened-by}
-use Rattle.frame_log.proofs.input.open_site.Goals as goal
-
-pub returns : goal.returns
-returns c = search opened-by
