@@ -5,3 +5,4 @@ pub mod Turns
 pub mod Expansion
 pub mod Laws
 pub mod Examples
+mod Entries

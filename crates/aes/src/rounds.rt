@@ -98,14 +98,14 @@ fn add_round_key(s: Columns, w: &Schedule, n: usize) -> Columns
 }
 
 // The cipher under one key: the S-box, and what the key is expanded to. Open, since a caller may bring a schedule that it stored.
-#[derive(Drop)]
-pub struct Cipher {
-    pub sbox: Sbox,
+#[derive(Clone, Copy)]
+pub struct Cipher<'a> {
+    pub sbox: Sbox<'a>,
     pub schedule: Schedule,
 }
 
-impl Cipher {
-    pub fn new(key: &[u8; 16]) -> Cipher
+impl<'a> Cipher<'a> {
+    pub fn new(key: &[u8; 16]) -> Cipher<'a>
         ensures { result.schedule ≡ scheduled key.now }
     {
         let sbox = Sbox::new();

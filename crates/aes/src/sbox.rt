@@ -1,10 +1,10 @@
-// The S-box (FIPS 197, 5.1.1): 256 constants, which a cipher keeps.
+// The S-box (FIPS 197, 5.1.1): 256 constants, which a cipher is lent.
 ghost use Rattle.std.specs.Prelude.{◌≡◌};
 ghost use Rattle.meaning.specs.Sbox.{sbox, IsSbox};
 ghost use Rattle.aes.specs.Kept.{IsSbox-prop};
 
 // FIPS 197, figure 7, a row on each line. Document 01 names a table of constants with one computed test.
-const SBOX: [u8; 256] = *b"\
+static SBOX: [u8; 256] = *b"\
     \x63\x7c\x77\x7b\xf2\x6b\x6f\xc5\x30\x01\x67\x2b\xfe\xd7\xab\x76\
     \xca\x82\xc9\x7d\xfa\x59\x47\xf0\xad\xd4\xa2\xaf\x9c\xa4\x72\xc0\
     \xb7\xfd\x93\x26\x36\x3f\xf7\xcc\x34\xa5\xe5\xf1\x71\xd8\x31\x15\
@@ -29,18 +29,16 @@ pub fn sbox_table() -> [u8; 256]
     SBOX
 }
 
-// The S-box, kept by what looks octets up in it. Open, since a caller may bring any table of which the fact holds.
-#[derive(Drop)]
-pub struct Sbox {
-    pub table: [u8; 256],
-    pub ghost is_sbox: { IsSbox table } by { IsSbox-prop table },
+// The S-box, lent to what looks octets up in it, so that none copies it. Open, since a caller may lend any table of which the fact holds.
+#[derive(Clone, Copy)]
+pub struct Sbox<'a> {
+    pub table: &'a [u8; 256],
+    pub ghost is_sbox: { IsSbox table.now } by { IsSbox-prop table.now },
 }
 
-impl Sbox {
-    pub fn new() -> Sbox {
-        Sbox {
-            table: sbox_table(),
-        }
+impl<'a> Sbox<'a> {
+    pub fn new() -> Sbox<'a> {
+        Sbox { table: &SBOX }
     }
 
     // The S-box at an octet.

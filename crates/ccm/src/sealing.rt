@@ -12,7 +12,7 @@ use modes::Level;
 // A key's cipher under a nonce, at a level: what a frame is sealed by, and opened.
 #[derive(Clone, Copy)]
 pub struct Keyed<'a> {
-    pub cipher: &'a Cipher,
+    pub cipher: &'a Cipher<'a>,
     pub nonce: [u8; 13],
     pub level: Level,
 }

@@ -29,7 +29,7 @@ const ENTRIES: [u16; 256] = [
 ];
 
 // A table that is made once and kept: entry x is the FCS of the octet x alone. Open, since a caller may bring any table of which that holds.
-#[derive(Drop)]
+#[derive(Clone, Copy)]
 pub struct Table {
     pub entries: [u16; 256],
     pub ghost is_table: { IsTable entries } by { IsTable-prop entries },

@@ -36,11 +36,12 @@ impl Layout for Contents {
             return false;
         }
         let mut start = CONTENTS_LEN;
-        for kind in Kind::ALL {
-            if !entry_right(file, kind, start) {
+        // By reference: a copy of the seven would be read at each turn, and the turns not be unrolled.
+        for kind in &Kind::ALL {
+            if !entry_right(file, *kind, start) {
                 return false;
             }
-            start += kind.size(Contents::count(file, kind)) as usize;
+            start += kind.size(Contents::count(file, *kind)) as usize;
         }
         file.len() == start
     }

@@ -17,6 +17,7 @@ pub use parts::{divided, divides, open_payload};
 pub use records::part_of;
 pub use security::{
     counter_of, key_id_len, key_index, key_source, key_source_len, level_of, mode_of,
+    source_compared,
 };
 
 // The octets of the shortest and of the longest frame, with its FCS.

@@ -1,10 +1,10 @@
 // The security header, which starts at its slice's first octet.
-ghost use Rattle.std.specs.Prelude.{◌≡◌};
+ghost use Rattle.std.specs.Prelude.{◌≡◌, drop};
 ghost use Rattle.meaning.specs.Frame.{level_of, mode_of, counter_of, key_source_len, key_id_len, key_index_of};
 ghost use Rattle.meaning.specs.Steps.{key_source};
 
 use modes::Level;
-use records::{Settings, part_of};
+use records::{Settings, part_of, rest_from};
 
 // The security level, 0 where the header is empty.
 #[tactic(auto, unfolding(meaning::specs::Frame::level_of))]
@@ -62,9 +62,16 @@ pub fn key_index(aux: &[u8]) -> u8
     octets::octet(aux, 5 + key_source_len(mode_of(aux)))
 }
 
-// The key source to compare: the settings' default in mode 1, otherwise the given octets, of which there are to be 0, 4 or 8.
+// The key source to compare in receiving: the settings' default in mode 1, otherwise the header's own, after the control octet and the counter.
+pub fn key_source<'a>(aux: &'a [u8], settings: &'a [u8], mode: u8) -> &'a [u8]
+    ensures { result.now ≡ key_source settings.now (drop 5 aux.now) mode }
+{
+    source_compared(rest_from(aux, 5), settings, mode)
+}
+
+// The same of any octets that start with the source, as a request's do.
 #[tactic(auto, unfolding(meaning::specs::Steps::key_source))]
-pub fn key_source<'a>(given: &'a [u8], settings: &'a [u8], mode: u8) -> &'a [u8]
+pub fn source_compared<'a>(given: &'a [u8], settings: &'a [u8], mode: u8) -> &'a [u8]
     ensures { result.now ≡ key_source settings.now given.now mode }
 {
     if mode == 1 {

@@ -37,7 +37,7 @@ use Rattle.meaning.specs.declared.Refusal.TheVariants.{
   InvalidParameter,
 }
 use Rattle.meaning.proofs.Bridges.{empty-length, load-done, load-refused, no-site-of, site-of-rule}
-use Rattle.frame_log.specs.Opening.{opening_of, opening_sized}
+use Rattle.frame_log.specs.Opening.{opening_of, opening_sized, Opened}
 use Rattle.frame_log.specs.declared.opening.Fault.{Fault}
 use Rattle.frame_log.specs.declared.opening.Fault.TheVariants.{Cut, Long}
 
@@ -92,14 +92,14 @@ module _ (f z s : List ℕ) (r : Result (Unit {0}) Refusal) (h : z ≡ empty_sit
   all : bridged (status r) s ≡ loaded f empty_site
   all = e ∙ ap (loaded f) h
 
-  pub loaded-site : s ≡ site_of f
+  loaded-site : s ≡ site_of f
   unfolding site_of
   loaded-site = ap (λ (x : Loaded). x.site) all
 
   told : status r ≡ (loaded f empty_site).status
   told = ap (λ (x : Loaded). x.status) all
 
-  pub loaded-rule : is_ok r ≡ site_rule s
+  loaded-rule : is_ok r ≡ site_rule s
   loaded-rule = told-by (file_rule f) refl r told ∙ sym (site-of-rule f) ∙ ap site_rule (sym loaded-site)
     where
       told-by : (c : Bool) → file_rule f ≡ c → (r : Result (Unit {0}) Refusal) → status r ≡ (loaded f empty_site).status → is_ok r ≡ file_rule f
@@ -108,9 +108,12 @@ module _ (f z s : List ℕ) (r : Result (Unit {0}) Refusal) (h : z ≡ empty_sit
       told-by false d (Ok x) q = absurd (let l = rw (load-refused f empty_site d) at q in omega arith)
       told-by false d (Err x) q = sym d
 
-  -- what is not loaded leaves zeros
-  pub loaded-none : is_ok r ≡ false → empty_site ≡ site_of f
-  loaded-none n = sym (no-site-of f (sym (site-of-rule f) ∙ ap site_rule (sym loaded-site) ∙ sym loaded-rule ∙ n))
+  pub opened-by : Opened f (is_ok r) s
+  opened-by = record { site = loaded-site; rule = loaded-rule }
+
+-- what is not loaded leaves zeros
+pub none-zeros : {f s : List ℕ} {ok : Bool} → Opened f ok s → ok ≡ false → s ≡ empty_site
+none-zeros {f} p n = p.site ∙ no-site-of f (sym (site-of-rule f) ∙ ap site_rule (sym p.site) ∙ sym p.rule ∙ n)
 
 pub zeros-are : replicate site_len 0 ≡ empty_site
 unfolding empty_site

@@ -1,9 +1,9 @@
 -- A frame's answer, where the site holds its rules and where none does.
 -- Assumes nothing.
-use mathlib.Core.Path.{◌≡◌, ap, ◌∙◌}
+use mathlib.Core.Path.{◌≡◌, refl, ap, ◌∙◌}
 use mathlib.Core.Bool.{true}
 use mathlib.Core.List.{List}
-use Rattle.std.specs.Prelude.{ℕ, Ok, Err}
+use Rattle.std.specs.Prelude.{ℕ, Option, None, Some, Ok, Err}
 use Rattle.meaning.specs.Site.{site_rule}
 use Rattle.meaning.specs.Loading.{empty_site}
 use Rattle.meaning.specs.Receive.{Outcome, outcome, refusal, answer_of, received_valid, received}
@@ -11,8 +11,22 @@ use Rattle.meaning.specs.declared.Accepted.{Accepted}
 use Rattle.meaning.specs.declared.Refusal.{Refusal}
 use Rattle.meaning.specs.declared.Refusal.TheVariants.{Site}
 use Rattle.meaning.proofs.Bridges.{empty-broken}
-use Rattle.frame_log.specs.Buffers.{Answered}
+use Rattle.site.specs.declared.fields.Site.{Site as Kept}
+use Rattle.frame_log.specs.Buffers.{SameSite, Answered}
 
+-- ---- the reference that the site is kept behind
+pub same-site : (a : Option Kept) → SameSite a a
+same-site None = tt
+same-site (Some s) = refl
+
+pub same-then : (a b c : Option Kept) → SameSite a b → SameSite b c → SameSite a c
+same-then None None c p q = q
+same-then None (Some t) c p q = absurd p
+same-then (Some s) None c p q = absurd p
+same-then (Some s) (Some t) None p q = absurd q
+same-then (Some s) (Some t) (Some u) p q = q ∙ p
+
+-- ---- what is answered
 module _ (s f o s' o' : List ℕ) (h : site_rule s ≡ true) where
   by-rule : received_valid s f o ≡ received s f o
   unfolding received

@@ -1,9 +1,9 @@
 -- Reads and writes one after the other: what is to be printed of the octets left to be read.
 -- Assumes nothing.
-use Rattle.std.proofs.Common.{◌≡◌, ℕ, ◌+◌, ◌-◌, ◌^◌, ◌≤◌, ◌<◌, List, [], ◌++◌, length, sym, ap, ◌∙◌, subst, arith, append_assoc, length-append, None, Some}
+use Rattle.std.proofs.Common.{◌≡◌, ℕ, ◌+◌, ◌-◌, ◌^◌, ◌≤◌, ◌<◌, List, [], ◌++◌, length, refl, sym, ap, ◌∙◌, subst, arith, le_refl, append_assoc, length-append, None, Some}
 use Rattle.std.specs.declared.option.Option.{Option}
 use Rattle.std.specs.Io.KnownBytes.{Appends, Consumes, IsAtEnd}
-use Rattle.std.proofs.KnownBytes.{Appends-trans}
+use Rattle.std.proofs.KnownBytes.{Appends-nil, Appends-trans}
 use Rattle.frame_log.specs.Whole.{Prints}
 
 -- a and b: what was left to be read, and what is; c and d: what was printed, and what is. T: what was to be printed of what was left to be read, U: what is.
@@ -12,6 +12,10 @@ abbrev pub Along : (T U : List ℕ → List ℕ) (k m : ℕ) (a b c d : Option (
 Along T U k m None b c d = Unit {0}
 Along T U k m (Some x) None c d = ⊥
 Along T U k m (Some x) (Some y) c d = (w : List ℕ) × Appends c d w × (T x ≡ w ++ U y) × (k + length y ≤ m + length x)
+
+pub along-none : (T : List ℕ → List ℕ) (k : ℕ) (a c : Option (List ℕ)) → Along T T k k a a c c
+along-none T k None c = tt
+along-none T k (Some x) c = ([], Appends-nil c, refl, le_refl _)
 
 -- bs was read
 pub along-read : (T U V : List ℕ → List ℕ) (k j m : ℕ) (a b e c d : Option (List ℕ)) (bs : List ℕ) → Along T U k m a b c d → Consumes b e bs

@@ -1,5 +1,6 @@
 -- What the log's functions promise of the frames at hand and of the text. Assumes nothing: these are definitions.
 -- kept        the site that frames are answered at
+-- SameSite    it is kept behind the same reference: who lent it learns what became of it
 -- whole_len   how many octets the frame at hand has, if it is whole
 -- next_len    the same of the frame that is answered next
 -- Answered    a frame's answer
@@ -24,6 +25,12 @@ use Rattle.frame_log.specs.declared.frames.Progress.{Progress}
 abbrev pub kept : Option Site → List ℕ
 kept (Some s) = s.octets.now
 kept None = empty_site
+
+abbrev pub SameSite : Option Site → Option Site → Type 0
+SameSite (Some s) (Some t) = t.octets.ghost_name ≡ s.octets.ghost_name
+SameSite None None = Unit {0}
+SameSite (Some s) None = ⊥
+SameSite None (Some t) = ⊥
 
 -- a length octet and as many more
 unfoldable pub whole_len : List ℕ → Option ℕ

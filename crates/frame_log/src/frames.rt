@@ -1,6 +1,6 @@
 // Answers the frames at hand, a batch between a read and a write.
 ghost use Rattle.std.specs.Prelude.{◌≡◌, ◌+◌, ◌<◌, ◌≤◌, length, replicate, IfSome};
-ghost use Rattle.frame_log.specs.Buffers.{whole_len, next_len, kept, Answered, Stepped, Batched, Ended};
+ghost use Rattle.frame_log.specs.Buffers.{whole_len, next_len, kept, SameSite, Answered, Stepped, Batched, Ended};
 
 use fcs::Table;
 use meaning::Refusal;
@@ -49,6 +49,7 @@ fn next_len(number: u64, room: usize, hand: &[u8]) -> Option<usize>
 impl<'a> Gate<'a> {
     // The output starts as zeros.
     pub fn new(site: Option<Site<'a>>) -> Gate<'a>
+        ensures same_site { SameSite site.entry result.site }
         ensures site { kept result.site ≡ kept site.entry }
         ensures out { result.out ≡ replicate 127 0 }
     {
@@ -61,7 +62,8 @@ impl<'a> Gate<'a> {
 
     // How many private octets an accepted frame has, or why it is refused: for its site where none keeps its rules.
     fn answer(&mut self, frame: &[u8]) -> Result<usize, Refusal>
-        ensures { Answered (kept self.old.site) frame.now self.old.out result (kept self.new.site) self.new.out }
+        ensures same_site { SameSite self.old.site self.new.site }
+        ensures answered { Answered (kept self.old.site) frame.now self.old.out result (kept self.new.site) self.new.out }
     {
         let Some(site) = &mut self.site else {
             return Err(Refusal::Site);
@@ -73,7 +75,9 @@ impl<'a> Gate<'a> {
     // Answers a frame, and writes its line.
     fn step(&mut self, frame: &[u8], number: u64, text: &mut Writer)
         requires { text.old.at + 80 ≤ length text.old.out.now }
-        ensures { Stepped (kept self.old.site) frame.now self.old.out number text.old.out.now text.old.at (kept self.new.site) self.new.out text.new.out.now text.new.at }
+        ensures same_site { SameSite self.old.site self.new.site }
+        ensures same_reference { text.new.out.ghost_name ≡ text.old.out.ghost_name }
+        ensures stepped { Stepped (kept self.old.site) frame.now self.old.out number text.old.out.now text.old.at (kept self.new.site) self.new.out text.new.out.now text.new.at }
     {
         let answer = self.answer(frame);
         lines::line(text, number, answer.map(|_| ()), answer.unwrap_or(0) as u64);
@@ -83,6 +87,8 @@ impl<'a> Gate<'a> {
     // Each takes an octet or more. Where none is answered, fewer than 256 octets are at hand.
     pub fn batch(&mut self, first: u64, hand: &[u8], text: &mut Writer) -> Progress
         requires { text.old.at ≡ 0 }
+        ensures same_site { SameSite self.old.site self.new.site }
+        ensures same_reference { text.new.out.ghost_name ≡ text.old.out.ghost_name }
         ensures batched { Batched (kept self.old.site) self.old.out first hand.now text.old.out.now (kept self.new.site) self.new.out text.new.out.now text.new.at result }
         ensures paced { result.number ≤ first + result.taken }
         ensures short { result.taken ≡ 0 → 80 ≤ length text.old.out.now → first < 18446744073709551615 → length hand.now < 256 }
@@ -103,7 +109,8 @@ impl<'a> Gate<'a> {
 // Writes the line for octets that are left at the end of the input.
 pub fn finish(hand: &[u8], text: &mut Writer)
     requires { (text.old.at ≡ 0) × (4 ≤ length text.old.out.now) }
-    ensures { Ended hand.now text.new.out.now text.new.at }
+    ensures same_reference { text.new.out.ghost_name ≡ text.old.out.ghost_name }
+    ensures ended { Ended hand.now text.new.out.now text.new.at }
 {
     if !hand.is_empty() {
         lines::cut(text);

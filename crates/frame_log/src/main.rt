@@ -17,7 +17,7 @@ ghost use Rattle.reading.specs.Full.{HoldsEnd};
 
 use frames::{Gate, finish};
 use octets::Writer;
-use opening::{Fault, beginning, open_site};
+use opening::{Fault, beginning, open_site, site_in};
 use reading::read_full;
 use std::io;
 use std::io::{Read, Write};
@@ -83,7 +83,8 @@ fn start<R: Read, W: Write>(
         Ok(n) => {
             output.write_all(head.written())?;
             let mut octets = [0u8; site::SITE_LEN];
-            let mut gate = Gate::new(open_site(&window.hand()[2..2 + n], &mut octets));
+            let ok = open_site(&window.hand()[2..2 + n], &mut octets);
+            let mut gate = Gate::new(site_in(&mut octets, ok));
             window.skip(2 + n);
             run(input, output, &mut gate, window, text)
         }

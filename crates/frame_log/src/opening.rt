@@ -1,7 +1,9 @@
 // Says how the input begins, and loads its site.
-ghost use Rattle.std.specs.Prelude.{◌≡◌};
+ghost use Rattle.std.specs.Prelude.{◌≡◌, false, IfSome};
+ghost use Rattle.meaning.specs.Site.{site_rule};
 ghost use Rattle.meaning.specs.Loading.{empty_site};
 ghost use Rattle.frame_log.specs.Opening.{opening_of, Opened};
+ghost use Rattle.frame_log.specs.Buffers.{kept};
 
 use site::Site;
 
@@ -30,14 +32,21 @@ pub fn beginning(hand: &[u8]) -> Result<usize, Fault>
     Ok(n)
 }
 
-// The site that a site file is loaded to, over zeros; none where the file breaks its rules: the zeros stay, which are no site.
-pub fn open_site<'a>(file: &[u8], octets: &'a mut [u8]) -> Option<Site<'a>>
+// Loads a site file into zeros, and tells whether the file keeps its rules: then the site does, and else the zeros stay, which are no site.
+// A truth and no `Option<Site>`: that would not say what is left of the octets where there is no site.
+pub fn open_site(file: &[u8], octets: &mut [u8]) -> bool
     requires { octets.old ≡ empty_site }
-    ensures { Opened file.now result }
+    ensures { Opened file.now result octets.new }
 {
-    if load::load(file, octets).is_ok() {
-        Some(Site::new(octets))
-    } else {
-        None
-    }
+    load::load(file, octets).is_ok()
+}
+
+// The site that the octets are, if they keep its rules.
+pub fn site_in<'a>(octets: &'a mut [u8], ok: bool) -> Option<Site<'a>>
+    requires ok { ok ≡ site_rule octets.old }
+    requires zeros { ok ≡ false → octets.old ≡ empty_site }
+    ensures same_reference { IfSome result (λ s. s.octets.ghost_name ≡ octets.entry.ghost_name) }
+    ensures site { kept result ≡ octets.old }
+{
+    if ok { Some(Site::new(octets)) } else { None }
 }

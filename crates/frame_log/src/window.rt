@@ -22,6 +22,7 @@ impl<'a> Window<'a> {
     // The octets at a buffer's start.
     pub fn new(buf: &'a mut [u8], have: usize) -> Window<'a>
         requires { have ≤ length buf.old }
+        ensures same_reference { result.buf.ghost_name ≡ buf.entry.ghost_name }
         ensures octets { result.buf.now ≡ buf.old }
         ensures places { (result.at ≡ 0) × (result.have ≡ have) }
         ensures hand { held result ≡ take have buf.old }
@@ -39,6 +40,7 @@ impl<'a> Window<'a> {
     // Drops the first octets at hand.
     pub fn skip(&mut self, n: usize)
         requires { n ≤ length (held self.old) }
+        ensures same_reference { self.new.buf.ghost_name ≡ self.old.buf.ghost_name }
         ensures octets { self.new.buf.now ≡ self.old.buf.now }
         ensures have { self.new.have ≡ self.old.have }
         ensures hand { held self.new ≡ drop n (held self.old) }
@@ -49,6 +51,7 @@ impl<'a> Window<'a> {
     // Moves the octets at hand to the front, and reads more behind them, until the buffer is full or the input ends.
     // After an error the octets that were at hand stand at the front.
     fn refill<R: Read>(&mut self, input: &mut R) -> io::Result<()>
+        ensures same_reference { self.new.buf.ghost_name ≡ self.old.buf.ghost_name }
         ensures fed { IfOk result (λ _. Fed self.old self.new) }
         ensures octets { IfOk result (λ _. Consumes (R.remaining input.old) (R.remaining input.new) (drop (length (held self.old)) (held self.new))) }
         ensures end { IfOk result (λ _. HoldsEnd self.new.buf.now self.new.have (R.remaining input.new)) }
@@ -67,6 +70,7 @@ impl<'a> Window<'a> {
     // A frame's octets at hand, or all that are left: a buffer that is not full holds the end of the input, if it did so before, and one
     // that is full has a frame's at hand. After an error the octets that were at hand stand at the front.
     pub fn fill<R: Read>(&mut self, input: &mut R) -> io::Result<()>
+        ensures same_reference { self.new.buf.ghost_name ≡ self.old.buf.ghost_name }
         ensures fed { IfOk result (λ _. Fed self.old self.new) }
         ensures octets { IfOk result (λ _. Consumes (R.remaining input.old) (R.remaining input.new) (drop (length (held self.old)) (held self.new))) }
         ensures end { HoldsEnd self.old.buf.now self.old.have (R.remaining input.old) → IfOk result (λ _. HoldsEnd self.new.buf.now self.new.have (R.remaining input.new)) }

@@ -9,18 +9,25 @@ ghost use Rattle.octets.specs.Writing.{Room, Over};
 ghost use Rattle.lines.specs.Text.{Put, decimal, heading, line_of, cut_line, site_line};
 
 use meaning::Refusal;
+pub use names::name;
 use octets::Writer;
 
-// Puts a number, in decimal: the digits before the last, and the last. Calls itself 19 times at most.
+// Puts a number, in decimal: its digits are made from the last on, and put at once. There are 20 at most.
 // By octets and not by `write!` and `Display`, which may answer an error: a line cannot fail.
 fn put_decimal(w: &mut Writer, n: u64)
     requires { Room w.old (length (decimal n)) }
     ensures { Over w.old w.old.at (decimal n) w.new }
 {
-    if 10 <= n {
-        put_decimal(w, n / 10);
+    let mut digits = [0u8; 20];
+    let mut left = n;
+    for k in 0..20 {
+        let at = 19 - k;
+        digits[at] = digit(left % 10);
+        left /= 10;
+        if left == 0 {
+            return w.all(&digits[at..]);
+        }
     }
-    w.octet(digit(n % 10));
 }
 
 fn digit(n: u64) -> u8
@@ -66,7 +73,7 @@ pub fn line(w: &mut Writer, number: u64, answer: Result<(), Refusal>, octets: u6
 {
     put_decimal(w, number);
     w.octet(b' ');
-    w.all(names::name(answer));
+    w.all(name(answer));
     w.octet(b' ');
     put_decimal(w, octets);
     w.octet(b'\n');

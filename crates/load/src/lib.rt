@@ -10,7 +10,7 @@ ghost use Rattle.meaning.specs.Loading.{with_body, site_from, bridged, loaded};
 ghost use Rattle.records.specs.Kinds.{number_of};
 
 use file::SiteFile;
-use meaning::Refusal;
+pub use meaning::Refusal;
 use records::Kind;
 
 // The count of a kind and its records, from a file into a site; all other octets stay.
@@ -28,8 +28,8 @@ fn fill(file: SiteFile, site: &mut [u8])
     ensures { site.new ≡ site_from file.entry.octets.now }
 {
     site.fill(0);
-    for kind in Kind::ALL {
-        put_table(file, site, kind);
+    for kind in &Kind::ALL {
+        put_table(file, site, *kind);
     }
 }
 

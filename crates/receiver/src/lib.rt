@@ -16,7 +16,8 @@ ghost use Rattle.receiver.specs.Parts.{Plainly, committed, settled};
 use aes::Cipher;
 use division::Divided;
 use fcs::Table;
-use meaning::{Accepted, Passed, Refusal};
+use meaning::Passed;
+pub use meaning::{Accepted, Refusal};
 use site::Site;
 
 // A frame without its FCS.

@@ -19,7 +19,7 @@ ghost use Rattle.meaning.specs.Receive.{
 use fcs::Table;
 use meaning::{Cuts, Header, Judged, Passed, Refusal};
 use modes::Level;
-use records::{Kind, Settings, rest_from};
+use records::{Kind, Settings};
 use site::View;
 
 // What the security steps look at: the site, and what is open of a frame.
@@ -65,8 +65,7 @@ impl Open<'_> {
         let settings = self.site.settings();
         let peer = search::peer_of(settings, self.header.source);
         let mode = frame::mode_of(self.aux);
-        let own = rest_from(self.aux, 5); // after the control octet and the counter
-        let source = frame::key_source(own, settings, mode);
+        let source = frame::key_source(self.aux, settings, mode);
         let lookups = self.site.table(Kind::Lookups);
         let Some(i) = search::key_row(lookups, mode, frame::key_index(self.aux), source, peer)
         else {

@@ -4,6 +4,7 @@ use mathlib.Core.Path.{◌≡◌, refl, sym, ap, ap₂, ◌∙◌}
 use Prim.Native.Nat.{ℕ, ◌+◌, ◌*◌, ◌-◌, ◌≤◌, ◌<◌}
 use native.Mathlib.Nat.{add-sub_cancel_left}
 use native.Mathlib.Omega.{arith}
+use borrow.Author.Tests.{not-false}
 use mathlib.Core.Bool.{Bool, true, false, not, ◌&&◌}
 use mathlib.Core.List.{List}
 use lib.ListN.{length, get_or, take, drop, length-drop}
@@ -80,6 +81,15 @@ kind-tag Handles = refl
 pub size-by : (w n m u : ℕ) → u ≡ w * n → n ≡ m → u ≡ w * m
 size-by w n m u d e = d ∙ ap (λ k. w * k) e
 
+-- ---- the whole rule of a file or a site: its shape, then its records; u is what the check of the shape says, b k the body of kind k
+-- v is the check of the records; n is the count of the keys
+pub whole-by : (shape : Bool) (b : ℕ → List ℕ) (u : Bool) → u ≡ shape → (v : Bool) (n : ℕ) (s t x l k q g : List ℕ) → not u ≡ false → length (b keys) ≡ 16 * n
+    → v ≡ tables_rule n (tables_by t x l k q g) → s ≡ b settings → t ≡ take own_at s
+    → x ≡ b devices → l ≡ b levels → k ≡ b lookups → q ≡ b usages → g ≡ b handles → v ≡ holds_by shape b
+unfolding store_rule
+whole-by shape b u d v n s t x l k q g h c e es et ex el ek eq eg =
+    e ∙ rw (← d, not-false u h, records-whole 16 n (b keys) (omega arith) c, et, es, ex, el, ek, eq, eg)
+
 -- ---- bodies: octets s; the count and place of each kind; h says that they are right
 module _ (s : List ℕ) (count place : List ℕ → ℕ → ℕ) where
   pub part-is : (k a u : ℕ) → a ≡ place s k → u ≡ width_of k * count s k → take (a + u - a) (drop a s) ≡ body_by place count s k
@@ -94,15 +104,14 @@ module _ (s : List ℕ) (count place : List ℕ → ℕ → ℕ) where
   unfolding width_of
   settings-cut b h w e = sym (length-take-le own_at b (omega (arith, ap length e, body-length settings h)))
 
-  -- v is the check of the records; n is the count of the keys
-  pub whole-by : (shape : Bool) (u v : Bool) (n : ℕ) (t x l k q g : List ℕ) → u ≡ shape → u ≡ true → place s keys + width_of keys * count s keys ≤ length s
+  -- the same where the bodies are cut out of the octets
+  pub whole-in : (shape : Bool) (u v : Bool) (n : ℕ) (t x l k q g : List ℕ) → u ≡ shape → u ≡ true → place s keys + width_of keys * count s keys ≤ length s
       → v ≡ tables_rule n (tables_by t x l k q g) → t ≡ take own_at (body_by place count s settings)
       → x ≡ body_by place count s devices → l ≡ body_by place count s levels → n ≡ count s keys
       → k ≡ body_by place count s lookups → q ≡ body_by place count s usages → g ≡ body_by place count s handles → v ≡ holds_by shape (body_by place count s)
-  unfolding store_rule width_of
-  whole-by shape u v n t x l k q g d h i e et ex el en ek eq eg =
-      let m : records 16 (body_by place count s keys) ≡ count s keys = records-whole 16 (count s keys) (body_by place count s keys) (omega arith) (body-length keys i) in
-      e ∙ rw (← d, h, m, en, et, ex, el, ek, eq, eg)
+  unfolding width_of
+  whole-in shape u v n t x l k q g d h i e et ex el en ek eq eg =
+      whole-by shape (body_by place count s) u d v n (body_by place count s settings) t x l k q g (ap not h) (rw en (body-length keys i)) e refl et ex el ek eq eg
 
 pub refused : (shape u : Bool) (b : ℕ → List ℕ) → u ≡ shape → u ≡ false → u ≡ holds_by shape b
 refused shape u b d h = h ∙ rw (← d, h)

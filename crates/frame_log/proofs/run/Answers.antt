@@ -28,6 +28,6 @@ returns-then-b-eq0 g c = λ end long.
     on_ok_weaker c.write_all-then-b-eq0.result
     (round-ended _ _ _ _ _ _ _ _ _ _ _ _ _ _ (rw c.hand.ensures at b.batched) _ _ _ (round-read _ _ _ _ _ _ _ _ _ _ _ _ l.goes m.fed m.octets)
     (rw c.written.ensures at c.in_ok-write_all.ensures.bytes)
-    c.if-b-eq0.true room _ _ (rw c.hand-then-b-eq0.ensures at c.finish.ensures) c.fill.new.self.buf.now c.fill.new.self.have (m.end (l.end end)) m.enough
+    c.if-b-eq0.true room _ _ (rw c.hand-then-b-eq0.ensures at c.finish.ensures.ended) c.fill.new.self.buf.now c.fill.new.self.have (m.end (l.end end)) m.enough
     (omega (arith, l.long, m.long)) (rw c.hand.ensures at b.short) _ (omega arith) _)
     (rw c.written-then-b-eq0.ensures at c.write_all-then-b-eq0.ensures.bytes)

@@ -8,7 +8,7 @@ use Rattle.meaning.specs.Site.{place_of, site_len}
 use Rattle.frame_log.specs.Buffers.{kept}
 use Rattle.frame_log.specs.Hand.{held}
 use Rattle.frame_log.proofs.Hands.{length-held}
-use Rattle.frame_log.proofs.Openings.{file-fits, zeros-are}
+use Rattle.frame_log.proofs.Openings.{file-fits, none-zeros, zeros-are}
 use Rattle.lines.proofs.Puts.{taken, then}
 use Rattle.frame_log.proofs.Inputs.{cut-printed, site-long, site-printed}
 use Rattle.frame_log.proofs.Whole.{prints-write, prints-last, prints-all}
@@ -20,14 +20,23 @@ overflow_add-n g c =
     let f = file-fits _ _ _ c.beginning.ensures c.in-Ok.is in
     omega (arith, f.0)
 
+pub overflow_add-n-in-Ok : goal.overflow_add-n-in-Ok
+unfolding file_most start_by width_of limit_of
+overflow_add-n-in-Ok g c =
+    let f = file-fits _ _ _ c.beginning.ensures c.in-Ok.is in
+    omega (arith, f.0)
+
 pub slice_bounds-open_site-end : goal.slice_bounds-open_site-end
 slice_bounds-open_site-end g c =
     let f = file-fits _ _ _ c.beginning.ensures c.in-Ok.is in
     omega (arith, f.1, ap length c.hand.ensures, ap length c.hand-in-Ok.ensures)
 
-pub open_site-requires : goal.open_site-requires
+pub open_site-ok-requires : goal.open_site-ok-requires
 unfolding site_len place_of start_by width_of limit_of
-open_site-requires g c = zeros-are
+open_site-ok-requires g c = zeros-are
+
+pub site_in-requires : goal.site_in-requires
+site_in-requires g c = record { ok = c.open_site-ok.ensures.rule; zeros = none-zeros c.open_site-ok.ensures }
 
 pub skip-requires : goal.skip-requires
 skip-requires g c =
@@ -56,7 +65,7 @@ returns-in_ok-write_all-in-Ok g c = λ end long.
     let p = rw c.hand.ensures at c.beginning.ensures in
     let f = file-fits i _ c.in-Ok.n p c.in-Ok.is in
     let e : 2 + c.in-Ok.n - 2 ≡ c.in-Ok.n = omega arith in
-    let site = c.new-gate.ensures.site ∙ rw (c.hand-in-Ok.ensures, e) at c.open_site.ensures.site in
+    let site = c.new-gate.ensures.site ∙ c.site_in.ensures.site ∙ rw (c.hand-in-Ok.ensures, e) at c.open_site-ok.ensures.site in
     let w = rw (← c.new-gate.ensures.out, ← c.skip.ensures.hand) at (site-printed i _ p c.in-Ok.n c.in-Ok.is (kept c.new-gate.result.site) site) in
     let t = rw c.new-head.ensures.at at (taken c.heading.ensures.put) in
     on_ok_weaker c.run.result

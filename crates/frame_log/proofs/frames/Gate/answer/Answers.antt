@@ -4,12 +4,15 @@ use Rattle.frame_log.proofs.Replies.{answered-ok, answered-err, answered-none}
 use Rattle.frame_log.proofs.frames.Gate.answer.Goals as goal
 
 pub returns-in_default : goal.returns-in_default
-returns-in_default c = rw c.in_default.is (answered-none c.args.frame.now c.args.self.now.out)
+returns-in_default c = rw c.in_default.is record { same_site = tt; answered = answered-none c.args.frame.now c.args.self.now.out }
 
 pub returns-in_err-answer : goal.returns-in_err-answer
 returns-in_err-answer c =
     let p = err_from_is_err_and c.from_residual.result c.from_residual.ensures.1 in
-    rw (p.1, p.2, c.in-Some.is) (answered-err _ _ _ _ _ c.in-Some.site.holds _ c.in_err-answer.ensures.outcome)
+    let e = c.in_err-answer.ensures in
+    rw (p.1, p.2, c.in-Some.is) record { same_site = e.same_reference; answered = answered-err _ _ _ _ _ c.in-Some.site.holds _ e.outcome }
 
 pub returns : goal.returns
-returns c = rw c.in-Some.is (answered-ok _ _ _ _ _ c.in-Some.site.holds _ c.in_ok-answer.ensures.outcome)
+returns c =
+    let e = c.in_ok-answer.ensures in
+    rw c.in-Some.is record { same_site = e.same_reference; answered = answered-ok _ _ _ _ _ c.in-Some.site.holds _ e.outcome }
