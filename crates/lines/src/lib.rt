@@ -22,11 +22,12 @@ fn put_decimal(w: &mut Writer, n: u64)
     let mut left = n;
     for k in 0..20 {
         let at = 19 - k;
-        digits[at] = digit(left % 10);
-        left /= 10;
-        if left == 0 {
+        if left < 10 {
+            digits[at] = digit(left);
             return w.all(&digits[at..]);
         }
+        digits[at] = digit(left % 10);
+        left /= 10;
     }
 }
 

@@ -1,5 +1,5 @@
--- `put_decimal` meets its contract: before the twentieth turn no digit is left, and those stored are put. Assumes nothing.
-use Rattle.std.proofs.Common.{◌≡◌, refl, ◌+◌, ◌-◌, ◌%◌, ◌<◌, ◌≤◌, arith}
+-- `put_decimal` meets its contract: before the twentieth turn one digit is left, and those stored are put. Assumes nothing.
+use Rattle.std.proofs.Common.{◌≡◌, refl, ◌+◌, ◌-◌, ◌≤◌, arith}
 use Rattle.lines.proofs.Numbers.{spelled-none, spelled-past, spelled-more, spelled-last}
 use Rattle.lines.proofs.put_decimal.Goals as goal
 
@@ -10,24 +10,20 @@ pub loop-k-preserved : goal.loop-k-preserved
 loop-k-preserved c =
     let l = c.loop-k in
     let s = l.invariant.spelled in
-    let more : 10 ≤ l.left = omega (arith, c.if-left-eq0.false) in
+    let more : 10 ≤ l.left = omega (arith, c.if-left-lt10.false) in
     let next : 19 - (l.k + 1) ≡ 19 - l.k - 1 = omega arith in
     record {
       same = l.invariant.same;
       turns = omega (arith, spelled-past _ _ _ _ s more);
-      spelled = rw next (spelled-more _ _ _ _ _ s more c.digit.ensures);
+      spelled = rw next (spelled-more _ _ _ _ _ s more c.digit-in-loop-k.ensures);
     }
 
 pub all-requires : goal.all-requires
 all-requires c =
     let l = c.loop-k in
-    let few : l.left < 10 = omega (arith, c.if-left-eq0.true) in
-    let one : l.left % 10 ≡ l.left = omega arith in
-    rw (spelled-last _ _ _ _ _ l.invariant.spelled few (rw one at c.digit.ensures), l.invariant.same) c.requires
+    rw (spelled-last _ _ _ _ _ l.invariant.spelled c.if-left-lt10.true c.digit.ensures, l.invariant.same) c.requires
 
-pub returns-then-left-eq0 : goal.returns-then-left-eq0
-returns-then-left-eq0 c =
+pub returns-then-left-lt10 : goal.returns-then-left-lt10
+returns-then-left-lt10 c =
     let l = c.loop-k in
-    let few : l.left < 10 = omega (arith, c.if-left-eq0.true) in
-    let one : l.left % 10 ≡ l.left = omega arith in
-    rw (spelled-last _ _ _ _ _ l.invariant.spelled few (rw one at c.digit.ensures), l.invariant.same) at c.all.ensures
+    rw (spelled-last _ _ _ _ _ l.invariant.spelled c.if-left-lt10.true c.digit.ensures, l.invariant.same) at c.all.ensures
